@@ -19,7 +19,7 @@ const FIRST: &str =
 const FIRST_TEXT: &str = "t 1 ok\nt 2 ok 0\nt 3 ok\nt 4 ok 7\nt 5 ok\nt 6 missing\n";
 
 /// Scripts, with the statuses and the texts of their runs.
-const RUNS: [(&str, u8, &str); 45] = [
+const RUNS: [(&str, u8, &str); 48] = [
     // Nobody has anything to do.
     ("gup 1\nframes 8 8 64\nprocess p\nthread t p\n", 0, ""),
     ("gup 1\nframes 8 8 64\n", 0, ""),
@@ -167,6 +167,25 @@ const RUNS: [(&str, u8, &str); 45] = [
         0,
         "t 1 ok\nt 2 ok\nt 3 ok\nt 4 ok\nt 5 ok 1\nt 6 ok 1 of 3 unmovable 1025\nt 7 ok\nt 8 ok 2\nm 1 busy 1025\nm 2 ok\n",
     ),
+    // A mirror slot has its page over loads, pins and stores that only upgrade; a protect also to `rw`, a discard and an unmap empty
+    // it. A mirror that is refused fills nothing.
+    (
+        "gup 1\nframes 8 8 64\nprocess p\nthread t p\ndevice d 8\non d mirror a p 5\non d look a 0\non t map 5 1 rw\non d mirror a p 5\non d look a 0\non t store 5.0 7\non t load 5.0\non t pin h 5 1 write\non d look a 0\non t protect 5 1 r\non d look a 0\non d mirror a p 5\non d look a 0\non t protect 5 1 rw\non d look a 0\non d mirror a p 5\non d look a 0\non t discard 5 1\non d look a 0\non d mirror a p 5\non d look a 0\non t unmap 5 1\non d look a 0\non d mirror a p 5\non d look a 0\nturns d*2 t d*2 t*3 d t d*3 t d*3 t d*3 t d*3\n",
+        0,
+        "d 1 missing\nd 2 stale\nt 1 ok\nd 3 ok\nd 4 ok 0\nt 2 ok\nt 3 ok 7\nt 4 ok 1\nd 5 ok 7\nt 5 ok\nd 6 stale\nd 7 ok\nd 8 ok 7\nt 6 ok\nd 9 stale\nd 10 ok\nd 11 ok 7\nt 7 ok\nd 12 stale\nd 13 ok\nd 14 ok 0\nt 8 ok\nd 15 stale\nd 16 missing\nd 17 stale\n",
+    ),
+    // A share empties the parent's slot, a store that breaks and an exit the child's alone, a move its page's alone.
+    (
+        "gup 1\nframes 8 8 64\nprocess p\nchild c\nthread t p\nthread u c\ndevice d 8\nmover m\non t map 5 1 rw\non t store 5.0 7\non d mirror a p 5\non t fork c\non d look a 0\non d mirror a p 5\non d mirror b c 5\non u store 5.0 9\non d look b 0\non d look a 0\non d mirror b c 5\non t store 5.0 8\non m move p 5 normal\non d look a 0\non d look b 0\non u exit\non d look b 0\non d mirror b c 5\nturns t*2 d t*4 d*3 u d*3 t m*3 d*2 u*2 d*2\n",
+        0,
+        "t 1 ok\nt 2 ok\nd 1 ok\nt 3 ok\nd 2 stale\nd 3 ok\nd 4 ok\nu 1 ok\nd 5 stale\nd 6 ok 7\nd 7 ok\nt 4 ok\nm 1 ok\nd 8 stale\nd 9 ok 9\nu 2 ok\nd 10 stale\nd 11 missing\n",
+    ),
+    // Of no frame, and of a child whose fork failed.
+    (
+        "gup 1\nframes 1 0 64\nprocess p\nchild c\nthread t p\ndevice d 8\non t map 5 2 rw\non t store 5.0 7\non t pin h 5 1 read\non d mirror a p 6\non d look a 0\non d mirror b c 5\non t fork c\nturns t*3 d*3\n",
+        0,
+        "t 1 ok\nt 2 ok\nt 3 ok 1\nd 1 noframe\nd 2 stale\nt 4 noframe\nd 3 unborn\n",
+    ),
     // At most 1,024 pages.
     (
         "gup 1\nframes 8 8 64\nprocess p\nthread t p\non t map 0 1024 rw\non t map 2000 1 rw\non t unmap 1023 1\non t map 2000 1 rw\n",
@@ -300,10 +319,10 @@ const REFUSALS: [(&str, u32, Reason, &str); 7] = [
         "line 5: name\n",
     ),
     (
-        "gup 1\nframes 8 8 64\nprocess p\nthread t p\ndevice d 8\non d mirror m p 5\n",
-        6,
+        "gup 1\nframes 8 8 64\nprocess p\nthread t p\ndevice d 8\non t pin h 5 1 write\non d inv h 0 0:1 1:1\n",
+        7,
         Reason::Later,
-        "line 6: later\n",
+        "line 7: later\n",
     ),
 ];
 

@@ -116,14 +116,7 @@ fn take_mirror(
         (mirroring_view parts.old.frames old mirrors.old) (mirroring_view parts.new.frames new mirrors.new)
         (λ s. mirror_turn s head.now.actor proc mirror page (s.entry proc page)) (whats_of said)) }
 {
-    fill(
-        &mut parts.spaces[proc.get() as usize],
-        &mut parts.frames,
-        mirrors,
-        journal,
-        head,
-        proc,
-        mirror,
-        page,
-    );
+    let space = &mut parts.spaces[proc.get() as usize];
+    let frames = &mut parts.frames;
+    fill(space, frames, mirrors, journal, head, proc, mirror, page);
 }

@@ -104,14 +104,10 @@ pub fn take_at(
         (λ s. turn_of s who k op.now) (whats_of said)) }
 {
     if let Some(child) = child_of(op) {
-        let (over, next) = take_fork(parts, journal, head, proc.unwrap(), child, *job);
-        *job = next;
-        return over;
+        return take_fork(parts, journal, head, proc.unwrap(), child, job);
     }
     if let Op::Move { page, zone, .. } = op {
-        let (over, next) = move_page(parts, journal, head, proc.unwrap(), *page, *zone, *job);
-        *job = next;
-        return over;
+        return move_page(parts, journal, head, proc.unwrap(), *page, *zone, job);
     }
     if let Op::Pin {
         handle,
@@ -129,9 +125,7 @@ pub fn take_at(
             want: *want,
             fast: *fast,
         };
-        let (over, next) = take_pin(parts, journal, head, call, far, *job);
-        *job = next;
-        return over;
+        return take_pin(parts, journal, head, call, far, job);
     }
     take_single(parts, journal, head, proc, far, op)
 }
@@ -238,19 +232,19 @@ fn take_pin(
     head: &Head,
     call: PinCall,
     far: u16,
-    place: JobPlace,
-) -> (bool, JobPlace)
+    job: &mut JobPlace,
+) -> bool
     requires there { call.proc < length parts.old.spaces.items }
     requires actor { head.now.actor < length parts.old.taken.items }
     requires tidy { EachSpace (IsTidy (frames_of parts.old.frames)) parts.old.spaces.items }
     requires ready { (space : SpaceParts) (pages : ArrayVecValue ℕ) → slice_get parts.old.spaces.items call.proc ≡ Some space
         → slice_get parts.old.taken.items head.now.actor ≡ Some pages
         → IsReadyToPin (frames_of parts.old.frames) pages.items (call.page + length pages.items) call.n call.want
-        (call.fast && far == 0) (place_of place) (space_of space) }
+        (call.fast && far == 0) (place_of job.old) (space_of space) }
     requires few { (f : ℕ) → (frames_of parts.old.frames).count f < 2 ^ 40 }
     requires unmade { handles_of parts.old.handles call.handle ≡ unmade }
     requires taken { (pages : ArrayVecValue ℕ) → slice_get parts.old.taken.items head.now.actor ≡ Some pages
-        → IsWithinPin call.n (length pages.items) (place_of place) }
+        → IsWithinPin call.n (length pages.items) (place_of job.old) }
     requires some { 1 ≤ call.n }
     requires most { call.n ≤ 16 }
     requires range { call.page + call.n ≤ 2 ^ 35 }
@@ -263,16 +257,16 @@ fn take_pin(
         → slice_get parts.new.spaces.items q ≡ slice_get parts.old.spaces.items q }
     ensures others_taken { (b : ℕ) → (b ≡ head.now.actor → ⊥)
         → slice_get parts.new.taken.items b ≡ slice_get parts.old.taken.items b }
-    ensures turn { TellsTurn head.now journal.old journal.new result.0
+    ensures turn { TellsTurn head.now journal.old journal.new result
         (λ said. (old new : SpaceParts) (was now : ArrayVecValue ℕ)
         → slice_get parts.old.spaces.items call.proc ≡ Some old → slice_get parts.new.spaces.items call.proc ≡ Some new
         → slice_get parts.old.taken.items head.now.actor ≡ Some was
         → slice_get parts.new.taken.items head.now.actor ≡ Some now
         → IsPinTurn head.now.actor call (length was.items) far
-        (pinning_view parts.old.frames old parts.old.handles was.items place)
-        (pinning_view parts.new.frames new parts.new.handles now.items result.1) (whats_of said)) }
+        (pinning_view parts.old.frames old parts.old.handles was.items job.old)
+        (pinning_view parts.new.frames new parts.new.handles now.items job.new) (whats_of said)) }
 {
-    pin(
+    let (over, next) = pin(
         &mut parts.spaces[call.proc.get() as usize],
         &mut parts.frames,
         &mut parts.handles,
@@ -281,8 +275,10 @@ fn take_pin(
         head,
         call,
         far,
-        place,
-    )
+        *job,
+    );
+    *job = next;
+    over
 }
 
 // Takes the turn of a get.
@@ -401,15 +397,8 @@ fn take_alone(
         → IsTurnOf (ShowsAlone proc) Anywhere (alone_view frames.old old) (alone_view frames.new new)
         (λ s. op_turn s head.now.actor proc slots k op.now) (whats_of said)) }
 {
-    take(
-        &mut spaces[proc.get() as usize],
-        frames,
-        journal,
-        head,
-        proc,
-        far,
-        op,
-    )
+    let space = &mut spaces[proc.get() as usize];
+    take(space, frames, journal, head, proc, far, op)
 }
 
 // Takes a turn of a move of this page of the process to a frame of this zone.
@@ -421,33 +410,26 @@ fn move_page(
     proc: ProcNo,
     page: PageNo,
     zone: Zone,
-    place: JobPlace,
-) -> (bool, JobPlace)
+    job: &mut JobPlace,
+) -> bool
     requires there { proc < length parts.old.spaces.items }
     requires tidy { EachSpace (IsTidy (frames_of parts.old.frames)) parts.old.spaces.items }
     requires ready { (space : SpaceParts) → slice_get parts.old.spaces.items proc ≡ Some space
-        → IsReadyToMove (frames_of parts.old.frames) page (place_of place) (space_of space) }
+        → IsReadyToMove (frames_of parts.old.frames) page (place_of job.old) (space_of space) }
     requires room { 3 ≤ journal.old.room }
     ensures spaces { length parts.new.spaces.items ≡ length parts.old.spaces.items }
     ensures births { parts.new.births ≡ parts.old.births }
     ensures taken { parts.new.taken ≡ parts.old.taken }
     ensures stores { parts.new.stores ≡ parts.old.stores }
-    ensures turn { TellsTurn head.now journal.old journal.new result.0
+    ensures turn { TellsTurn head.now journal.old journal.new result
         (λ said. (q slots k : ℕ) (others : ℕ → Place) (left : ℕ → List Taken)
         → IsTurnOf (ShowsAll head.now.actor (Move q page zone)) (λ s. StandsAt s head.now.actor proc k (Move q page zone))
-        (all_view parts.old place others left) (all_view parts.new result.1 others left)
+        (all_view parts.old job.old others left) (all_view parts.new job.new others left)
         (λ s. op_turn s head.now.actor proc slots k (Move q page zone)) (whats_of said)) }
 {
-    let next = take_move(
-        &mut parts.spaces[proc.get() as usize],
-        &mut parts.frames,
-        journal,
-        head,
-        page,
-        zone,
-        place,
-    );
-    (is_over(&next), next)
+    let space = &mut parts.spaces[proc.get() as usize];
+    *job = take_move(space, &mut parts.frames, journal, head, page, zone, *job);
+    is_over(job)
 }
 
 // Whether a move is over after a turn behind which it stands there.
@@ -466,22 +448,22 @@ fn take_fork(
     head: &Head,
     proc: ProcNo,
     child: ProcNo,
-    place: JobPlace,
-) -> (bool, JobPlace)
+    job: &mut JobPlace,
+) -> bool
     requires there { proc < length parts.old.spaces.items }
     requires tidy { EachSpace (IsTidy (frames_of parts.old.frames)) parts.old.spaces.items }
     requires few_counts { (f : ℕ) → (frames_of parts.old.frames).count f < 2 ^ 40 }
     requires fork { IsForkReady (frames_of parts.old.frames) parts.old.spaces.items parts.old.births.items
-        head.now.actor proc child place }
+        head.now.actor proc child job.old }
     requires room { 3 ≤ journal.old.room }
     ensures spaces { length parts.new.spaces.items ≡ length parts.old.spaces.items }
     ensures births { length parts.new.births.items ≡ length parts.old.births.items }
     ensures taken { parts.new.taken ≡ parts.old.taken }
     ensures stores { parts.new.stores ≡ parts.old.stores }
-    ensures turn { TellsTurn head.now journal.old journal.new result.0
+    ensures turn { TellsTurn head.now journal.old journal.new result
         (λ said. (slots k : ℕ) (others : ℕ → Place) (left : ℕ → List Taken)
         → IsTurnOf (ShowsAll head.now.actor (Fork child)) (λ s. StandsAt s head.now.actor proc k (Fork child))
-        (all_view parts.old place others left) (all_view parts.new result.1 others left)
+        (all_view parts.old job.old others left) (all_view parts.new job.new others left)
         (λ s. op_turn s head.now.actor proc slots k (Fork child)) (whats_of said)) }
 {
     let forked = fork_two(
@@ -491,10 +473,10 @@ fn take_fork(
         head,
         proc,
         child,
-        place,
+        *job,
     );
     set_birth(&mut parts.births, child, birth_of(&forked));
-    goes_on(&forked)
+    goes_on(&forked, job)
 }
 
 // What the child of a fork is after a turn that comes to this: it grows until the fork ends or fails.
@@ -508,14 +490,20 @@ fn birth_of(forked: &Forked) -> Birth
     }
 }
 
-// Whether a fork is over after a turn that comes to this, and where it stands then.
-fn goes_on(forked: &Forked) -> (bool, JobPlace)
-    ensures over { result.0 ≡ is_over forked.now }
-    ensures place { result.1 ≡ place_after forked.now }
+// Whether a fork is over after a turn that comes to this; the job stands there then.
+fn goes_on(forked: &Forked, job: &mut JobPlace) -> bool
+    ensures over { result ≡ is_over forked.now }
+    ensures place { job.new ≡ place_after forked.now }
 {
     match forked {
-        Forked::Goes(place) => (false, *place),
-        Forked::Born | Forked::Failed => (true, JobPlace::Unbegun),
+        Forked::Goes(place) => {
+            *job = *place;
+            false
+        }
+        Forked::Born | Forked::Failed => {
+            *job = JobPlace::Unbegun;
+            true
+        }
     }
 }
 

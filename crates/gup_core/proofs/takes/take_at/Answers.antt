@@ -12,21 +12,21 @@ use Rattle.gup_core.proofs.takes.take_at.Goals as goal
 
 -- ---- a fork
 
-pub take_fork-over-requires-clause-there : goal.take_fork-over-requires-clause-there
-take_fork-over-requires-clause-there c =
+pub take_fork-requires-clause-there : goal.take_fork-requires-clause-there
+take_fork-requires-clause-there c =
     let ready = c.requires.ready c.unwrap.result (process_is c.args.proc c.unwrap.result c.unwrap.ensures) in
     ready.there (subst HasProcess (sym (forks_into c.args.op.now c.in-Some.child (sym c.child_of.ensures ∙ c.in-Some.is))) tt)
 
-pub take_fork-over-requires-clause-tidy : goal.take_fork-over-requires-clause-tidy
-take_fork-over-requires-clause-tidy c =
+pub take_fork-requires-clause-tidy : goal.take_fork-requires-clause-tidy
+take_fork-requires-clause-tidy c =
     (c.requires.ready c.unwrap.result (process_is c.args.proc c.unwrap.result c.unwrap.ensures)).tidy
 
-pub take_fork-over-requires-clause-few_counts : goal.take_fork-over-requires-clause-few_counts
-take_fork-over-requires-clause-few_counts c =
+pub take_fork-requires-clause-few_counts : goal.take_fork-requires-clause-few_counts
+take_fork-requires-clause-few_counts c =
     (c.requires.ready c.unwrap.result (process_is c.args.proc c.unwrap.result c.unwrap.ensures)).few_counts
 
-pub take_fork-over-requires-clause-fork : goal.take_fork-over-requires-clause-fork
-take_fork-over-requires-clause-fork c =
+pub take_fork-requires-clause-fork : goal.take_fork-requires-clause-fork
+take_fork-requires-clause-fork c =
     let ready = c.requires.ready c.unwrap.result (process_is c.args.proc c.unwrap.result c.unwrap.ensures) in
     ready.fork c.in-Some.child (forks_into c.args.op.now c.in-Some.child (sym c.child_of.ensures ∙ c.in-Some.is))
 
@@ -34,7 +34,7 @@ pub returns-in-Some-clause-turn : goal.returns-in-Some-clause-turn
 returns-in-Some-clause-turn c =
     let a = c.args in
     let actor = a.head.now.actor in
-    let t = c.take_fork-over in
+    let t = c.take_fork in
     let told = t.ensures.turn in
     let is = forks_into a.op.now c.in-Some.child (sym c.child_of.ensures ∙ c.in-Some.is) in
     record {
@@ -42,26 +42,26 @@ returns-in-Some-clause-turn c =
       tells = told.tells;
       ends = told.ends;
       is_so =
-          of_born a.parts.now t.new.parts actor a.proc a.far a.op.now a.job.now t.result.1 (whats_of told.said)
+          of_born a.parts.now t.new.parts actor a.proc a.far a.op.now a.job.now t.new.job (whats_of told.said)
           c.requires.unfailed c.requires.birth
           (λ p slots of_p has.
-          subst (λ (q : ℕ). IsTurnAmong a.parts.now t.new.parts actor q slots a.far a.op.now a.job.now (whats_of told.said) t.result.1) (some_is a.proc c.unwrap.result p c.unwrap.ensures of_p)
-          (subst (λ (op : Op). IsTurnAmong a.parts.now t.new.parts actor c.unwrap.result slots a.far op a.job.now (whats_of told.said) t.result.1) (sym is) (λ k rest left far_is. told.is_so slots k rest left)));
+          subst (λ (q : ℕ). IsTurnAmong a.parts.now t.new.parts actor q slots a.far a.op.now a.job.now (whats_of told.said) t.new.job) (some_is a.proc c.unwrap.result p c.unwrap.ensures of_p)
+          (subst (λ (op : Op). IsTurnAmong a.parts.now t.new.parts actor c.unwrap.result slots a.far op a.job.now (whats_of told.said) t.new.job) (sym is) (λ k rest left far_is. told.is_so slots k rest left)));
     }
 
 -- ---- a move
 
-pub move_page-over-requires-clause-there : goal.move_page-over-requires-clause-there
-move_page-over-requires-clause-there c =
+pub move_page-requires-clause-there : goal.move_page-requires-clause-there
+move_page-requires-clause-there c =
     let ready = c.requires.ready c.unwrap-in-Move.result (process_is c.args.proc c.unwrap-in-Move.result c.unwrap-in-Move.ensures) in
     ready.there (subst HasProcess (sym c.in-Move.is) tt)
 
-pub move_page-over-requires-clause-tidy : goal.move_page-over-requires-clause-tidy
-move_page-over-requires-clause-tidy c =
+pub move_page-requires-clause-tidy : goal.move_page-requires-clause-tidy
+move_page-requires-clause-tidy c =
     (c.requires.ready c.unwrap-in-Move.result (process_is c.args.proc c.unwrap-in-Move.result c.unwrap-in-Move.ensures)).tidy
 
-pub move_page-over-requires-clause-ready : goal.move_page-over-requires-clause-ready
-move_page-over-requires-clause-ready c space here =
+pub move_page-requires-clause-ready : goal.move_page-requires-clause-ready
+move_page-requires-clause-ready c space here =
     let move = c.in-Move in
     let ready = c.requires.ready c.unwrap-in-Move.result (process_is c.args.proc c.unwrap-in-Move.result c.unwrap-in-Move.ensures) in
     ready.move move.proc move.page move.zone space move.is here
@@ -70,7 +70,7 @@ pub returns-in-Move-clause-turn : goal.returns-in-Move-clause-turn
 returns-in-Move-clause-turn c =
     let a = c.args in
     let actor = a.head.now.actor in
-    let t = c.move_page-over in
+    let t = c.move_page in
     let told = t.ensures.turn in
     let move = c.in-Move in
     let of = c.unwrap-in-Move.result in
@@ -79,71 +79,71 @@ returns-in-Move-clause-turn c =
       tells = told.tells;
       ends = told.ends;
       is_so =
-          of_born a.parts.now t.new.parts actor a.proc a.far a.op.now a.job.now t.result.1 (whats_of told.said)
+          of_born a.parts.now t.new.parts actor a.proc a.far a.op.now a.job.now t.new.job (whats_of told.said)
           c.requires.unfailed c.requires.birth
           (λ p slots of_p has.
-          subst (λ (q : ℕ). IsTurnAmong a.parts.now t.new.parts actor q slots a.far a.op.now a.job.now (whats_of told.said) t.result.1) (some_is a.proc of p c.unwrap-in-Move.ensures of_p)
-          (subst (λ (op : Op). IsTurnAmong a.parts.now t.new.parts actor of slots a.far op a.job.now (whats_of told.said) t.result.1) (sym move.is) (λ k rest left far_is. told.is_so move.proc slots k rest left)));
+          subst (λ (q : ℕ). IsTurnAmong a.parts.now t.new.parts actor q slots a.far a.op.now a.job.now (whats_of told.said) t.new.job) (some_is a.proc of p c.unwrap-in-Move.ensures of_p)
+          (subst (λ (op : Op). IsTurnAmong a.parts.now t.new.parts actor of slots a.far op a.job.now (whats_of told.said) t.new.job) (sym move.is) (λ k rest left far_is. told.is_so move.proc slots k rest left)));
     }
 
 -- ---- a pin
 
-pub take_pin-over-requires-clause-there : goal.take_pin-over-requires-clause-there
-take_pin-over-requires-clause-there c =
+pub take_pin-requires-clause-there : goal.take_pin-requires-clause-there
+take_pin-requires-clause-there c =
     let pin = c.in-Pin in
     let ready = c.requires.ready c.unwrap-in-Pin.result (process_is c.args.proc c.unwrap-in-Pin.result c.unwrap-in-Pin.ensures) in
     ready.there (subst HasProcess (sym pin.is) tt)
 
-pub take_pin-over-requires-clause-actor : goal.take_pin-over-requires-clause-actor
-take_pin-over-requires-clause-actor c =
+pub take_pin-requires-clause-actor : goal.take_pin-requires-clause-actor
+take_pin-requires-clause-actor c =
     let pin = c.in-Pin in
     let ready = c.requires.ready c.unwrap-in-Pin.result (process_is c.args.proc c.unwrap-in-Pin.result c.unwrap-in-Pin.ensures) in
     ready.actor_taken
 
-pub take_pin-over-requires-clause-tidy : goal.take_pin-over-requires-clause-tidy
-take_pin-over-requires-clause-tidy c =
+pub take_pin-requires-clause-tidy : goal.take_pin-requires-clause-tidy
+take_pin-requires-clause-tidy c =
     let pin = c.in-Pin in
     let ready = c.requires.ready c.unwrap-in-Pin.result (process_is c.args.proc c.unwrap-in-Pin.result c.unwrap-in-Pin.ensures) in
     ready.tidy
 
-pub take_pin-over-requires-clause-ready : goal.take_pin-over-requires-clause-ready
-take_pin-over-requires-clause-ready c space pages here taken =
+pub take_pin-requires-clause-ready : goal.take_pin-requires-clause-ready
+take_pin-requires-clause-ready c space pages here taken =
     let pin = c.in-Pin in
     let ready = c.requires.ready c.unwrap-in-Pin.result (process_is c.args.proc c.unwrap-in-Pin.result c.unwrap-in-Pin.ensures) in
     ready.pin space pages pin.handle pin.page pin.n pin.want pin.fast pin.is here taken
 
-pub take_pin-over-requires-clause-few : goal.take_pin-over-requires-clause-few
-take_pin-over-requires-clause-few c =
+pub take_pin-requires-clause-few : goal.take_pin-requires-clause-few
+take_pin-requires-clause-few c =
     let pin = c.in-Pin in
     let ready = c.requires.ready c.unwrap-in-Pin.result (process_is c.args.proc c.unwrap-in-Pin.result c.unwrap-in-Pin.ensures) in
     ready.few_counts
 
-pub take_pin-over-requires-clause-unmade : goal.take_pin-over-requires-clause-unmade
-take_pin-over-requires-clause-unmade c =
+pub take_pin-requires-clause-unmade : goal.take_pin-requires-clause-unmade
+take_pin-requires-clause-unmade c =
     let pin = c.in-Pin in
     let ready = c.requires.ready c.unwrap-in-Pin.result (process_is c.args.proc c.unwrap-in-Pin.result c.unwrap-in-Pin.ensures) in
     ready.yet pin.handle (ap made_by pin.is)
 
-pub take_pin-over-requires-clause-taken : goal.take_pin-over-requires-clause-taken
-take_pin-over-requires-clause-taken c pages here =
+pub take_pin-requires-clause-taken : goal.take_pin-requires-clause-taken
+take_pin-requires-clause-taken c pages here =
     let pin = c.in-Pin in
     let ready = c.requires.ready c.unwrap-in-Pin.result (process_is c.args.proc c.unwrap-in-Pin.result c.unwrap-in-Pin.ensures) in
     ready.taken pages pin.handle pin.page pin.n pin.want pin.fast here pin.is
 
-pub take_pin-over-requires-clause-some : goal.take_pin-over-requires-clause-some
-take_pin-over-requires-clause-some c =
+pub take_pin-requires-clause-some : goal.take_pin-requires-clause-some
+take_pin-requires-clause-some c =
     let pin = c.in-Pin in
     let ready = c.requires.ready c.unwrap-in-Pin.result (process_is c.args.proc c.unwrap-in-Pin.result c.unwrap-in-Pin.ensures) in
     (subst (λ (op : Op). IsOp op) pin.is ready.in_range).0
 
-pub take_pin-over-requires-clause-most : goal.take_pin-over-requires-clause-most
-take_pin-over-requires-clause-most c =
+pub take_pin-requires-clause-most : goal.take_pin-requires-clause-most
+take_pin-requires-clause-most c =
     let pin = c.in-Pin in
     let ready = c.requires.ready c.unwrap-in-Pin.result (process_is c.args.proc c.unwrap-in-Pin.result c.unwrap-in-Pin.ensures) in
     (subst (λ (op : Op). IsOp op) pin.is ready.in_range).1
 
-pub take_pin-over-requires-clause-range : goal.take_pin-over-requires-clause-range
-take_pin-over-requires-clause-range c =
+pub take_pin-requires-clause-range : goal.take_pin-requires-clause-range
+take_pin-requires-clause-range c =
     let pin = c.in-Pin in
     let ready = c.requires.ready c.unwrap-in-Pin.result (process_is c.args.proc c.unwrap-in-Pin.result c.unwrap-in-Pin.ensures) in
     (subst (λ (op : Op). IsOp op) pin.is ready.in_range).2
@@ -152,7 +152,7 @@ pub returns-in-Pin-clause-turn : goal.returns-in-Pin-clause-turn
 returns-in-Pin-clause-turn c =
     let a = c.args in
     let actor = a.head.now.actor in
-    let t = c.take_pin-over in
+    let t = c.take_pin in
     let told = t.ensures.turn in
     let pin = c.in-Pin in
     let of = c.unwrap-in-Pin.result in
@@ -162,12 +162,12 @@ returns-in-Pin-clause-turn c =
       tells = told.tells;
       ends = told.ends;
       is_so =
-          of_born a.parts.now t.new.parts actor a.proc a.far a.op.now a.job.now t.result.1 (whats_of told.said)
+          of_born a.parts.now t.new.parts actor a.proc a.far a.op.now a.job.now t.new.job (whats_of told.said)
           c.requires.unfailed c.requires.birth
           (λ p slots of_p has.
-          subst (λ (q : ℕ). IsTurnAmong a.parts.now t.new.parts actor q slots a.far a.op.now a.job.now (whats_of told.said) t.result.1) (some_is a.proc of p c.unwrap-in-Pin.ensures of_p)
-          (subst (λ (op : Op). IsTurnAmong a.parts.now t.new.parts actor of slots a.far op a.job.now (whats_of told.said) t.result.1) (sym pin.is)
-          (pinned a.parts.now t.new.parts actor of slots a.far pin.handle pin.page pin.n pin.want pin.fast a.job.now t.result.1 (whats_of told.said)
+          subst (λ (q : ℕ). IsTurnAmong a.parts.now t.new.parts actor q slots a.far a.op.now a.job.now (whats_of told.said) t.new.job) (some_is a.proc of p c.unwrap-in-Pin.ensures of_p)
+          (subst (λ (op : Op). IsTurnAmong a.parts.now t.new.parts actor of slots a.far op a.job.now (whats_of told.said) t.new.job) (sym pin.is)
+          (pinned a.parts.now t.new.parts actor of slots a.far pin.handle pin.page pin.n pin.want pin.fast a.job.now t.new.job (whats_of told.said)
           (ready.there (subst HasProcess (sym pin.is) tt)) t.ensures.spaces ready.actor_taken t.ensures.taken t.ensures.births t.ensures.stores t.ensures.other_spaces t.ensures.others_taken told.is_so)));
     }
 

@@ -31,15 +31,15 @@ returns-clause-turn c =
     let back = sym (written_back old.spaces.items t.new.spaces old.spaces.len (sym c.deref_mut.ensures.len ∙ ap length was) many) in
     let others = subst (λ (xs : List SpaceParts). (q : ℕ) → (q ≡ a.proc → ⊥) → (q ≡ a.child → ⊥) → slice_get xs q ≡ slice_get old.spaces.items q) back
     (subst (λ (xs : List SpaceParts). (q : ℕ) → (q ≡ a.proc → ⊥) → (q ≡ a.child → ⊥) → slice_get t.new.spaces q ≡ slice_get xs q) was t.ensures.others) in
-    let turn = subst (λ (xs : List SpaceParts). IsForkTurns old.frames t.new.frames old.spaces.items xs actor a.proc a.child a.place t.result (whats_of told.said)) back
-    (subst (λ (xs : List SpaceParts). IsForkTurns old.frames t.new.frames xs t.new.spaces actor a.proc a.child a.place t.result (whats_of told.said)) was told.is_so) in
+    let turn = subst (λ (xs : List SpaceParts). IsForkTurns old.frames t.new.frames old.spaces.items xs actor a.proc a.child a.job.now t.result (whats_of told.said)) back
+    (subst (λ (xs : List SpaceParts). IsForkTurns old.frames t.new.frames xs t.new.spaces actor a.proc a.child a.job.now t.result (whats_of told.said)) was told.is_so) in
     record {
       said = told.said;
       tells = told.tells;
       ends = c.goes_on.ensures.over ∙ told.ends;
       is_so = λ slots k rest left.
-          subst (λ (next : JobPlace). IsTurnAmong old new actor a.proc slots 0 (Fork a.child) a.place (whats_of told.said) next) (sym c.goes_on.ensures.place)
-          (forked old new actor a.proc a.child slots 0 a.place t.result (whats_of told.said)
+          subst (λ (next : JobPlace). IsTurnAmong old new actor a.proc slots 0 (Fork a.child) a.job.now (whats_of told.said) next) (sym c.goes_on.ensures.place)
+          (forked old new actor a.proc a.child slots 0 a.job.now t.result (whats_of told.said)
           c.requires.fork.apart c.requires.there c.requires.fork.there (ap length (sym back) ∙ many) refl refl refl others turn
           (c.set_birth.ensures.here ∙ ap (λ (b : Birth). Some b) c.birth_of.ensures) c.set_birth.ensures.others)
           k rest left refl;
