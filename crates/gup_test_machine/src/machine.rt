@@ -101,6 +101,7 @@ fn script(alloc: Global, first: Vec<Op>, second: Vec<Op>, third: Vec<Op>) -> Res
         processes,
         actors,
         handles,
+        mirrors: Vec::new(alloc),
         turns: Vec::new(alloc),
         seed: 0,
     }))

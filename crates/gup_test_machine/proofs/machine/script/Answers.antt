@@ -83,8 +83,8 @@ single_declares s (Take handle) alone = absurd alone
 single_declares s (Transfer handle outward slot parts) alone = absurd alone
 single_declares s (Get handle page) alone = absurd alone
 single_declares s (Put handle) alone = absurd alone
-single_declares s (Mirror mirror proc page) alone = tt
-single_declares s (Look mirror word) alone = tt
+single_declares s (Mirror mirror proc page) alone = absurd alone
+single_declares s (Look mirror word) alone = absurd alone
 single_declares s (Move proc page zone) alone = absurd alone
 single_declares s (Fork child) alone = absurd alone
 single_declares s Exit alone = tt
@@ -103,8 +103,8 @@ of_thread (Take handle) alone = absurd alone
 of_thread (Transfer handle outward slot parts) alone = absurd alone
 of_thread (Get handle page) alone = absurd alone
 of_thread (Put handle) alone = absurd alone
-of_thread (Mirror mirror proc page) alone = tt
-of_thread (Look mirror word) alone = tt
+of_thread (Mirror mirror proc page) alone = absurd alone
+of_thread (Look mirror word) alone = absurd alone
 of_thread (Move proc page zone) alone = absurd alone
 of_thread (Fork child) alone = absurd alone
 of_thread Exit alone = tt
@@ -214,6 +214,7 @@ are_script p0 p1 p2 x0 x1 x2 x3 x4 x5 h0 h1 unborn k0 k1 k2 k3 k4 k5 o0 o1 o2 s0
       few_processes = omega arith;
       few_actors = omega arith;
       few_handles = omega arith;
+      few_mirrors = omega arith;
       kinds =
           all_six (λ x. KindFits s x.kind) x0 x1 x2 x3 x4 x5 (fits x0.kind 0 k0 (omega arith)) (fits x1.kind 1 k1 (omega arith)) (fits x2.kind 2 k2 (omega arith))
           (fits x3.kind 0 k3 (omega arith)) (fits x4.kind 0 k4 (omega arith)) (fits x5.kind 0 k5 (omega arith));
@@ -254,30 +255,31 @@ are_script p0 p1 p2 x0 x1 x2 x3 x4 x5 h0 h1 unborn k0 k1 k2 k3 k4 k5 o0 o1 o2 s0
 pushed : {A : Type 0} (none one two three : List A) (x y z : A) → none ≡ [] → one ≡ none ++ x ∷ [] → two ≡ one ++ y ∷ [] → three ≡ two ++ z ∷ [] → three ≡ x ∷ y ∷ z ∷ []
 pushed none one two three x y z e e1 e2 e3 = e3 ∙ ap (λ l. l ++ z ∷ []) (e2 ∙ ap (λ l. l ++ y ∷ []) (e1 ∙ ap (λ l. l ++ x ∷ []) e))
 
-abbrev pub declared : List DeclaredProcess → List DeclaredActor → List (List ℕ) → (turns : List ℕ) → ScriptValue
-declared ps xs hs turns =
+abbrev pub declared : List DeclaredProcess → List DeclaredActor → (handles mirrors : List (List ℕ)) → (turns : List ℕ) → ScriptValue
+declared ps xs hs ms turns =
     record {
       frames = record { movable = 1; normal = 1; tables = 64 };
       processes = map process_value ps;
       actors = map actor_value xs;
       handles = hs;
-      mirrors = [];
+      mirrors = ms;
       turns = turns;
       seed = 0;
     }
 
-script_is : (ps : List DeclaredProcess) (xs : List DeclaredActor) (hs : List (List ℕ)) (turns : List ℕ) (p0 p1 p2 : DeclaredProcess) (x0 x1 x2 x3 x4 x5 : DeclaredActor) (h0 h1 : List ℕ)
-    → ps ≡ p0 ∷ p1 ∷ p2 ∷ [] → xs ≡ x0 ∷ x1 ∷ x2 ∷ x3 ∷ x4 ∷ x5 ∷ [] → hs ≡ h0 ∷ h1 ∷ [] → turns ≡ []
+script_is : (ps : List DeclaredProcess) (xs : List DeclaredActor) (hs ms : List (List ℕ)) (turns : List ℕ) (p0 p1 p2 : DeclaredProcess) (x0 x1 x2 x3 x4 x5 : DeclaredActor) (h0 h1 : List ℕ)
+    → ps ≡ p0 ∷ p1 ∷ p2 ∷ [] → xs ≡ x0 ∷ x1 ∷ x2 ∷ x3 ∷ x4 ∷ x5 ∷ [] → hs ≡ h0 ∷ h1 ∷ [] → ms ≡ [] → turns ≡ []
     → IsScript (six_threads (process_value p0) (process_value p1) (process_value p2) (actor_value x0) (actor_value x1) (actor_value x2) (actor_value x3) (actor_value x4) (actor_value x5) h0 h1)
-    → IsScript (declared ps xs hs turns)
-script_is ps xs hs turns p0 p1 p2 x0 x1 x2 x3 x4 x5 h0 h1 processes actors handles none h =
-    subst (λ (l : List DeclaredProcess). IsScript (declared l xs hs turns)) (sym processes)
-    (subst (λ (l : List DeclaredActor). IsScript (declared (p0 ∷ p1 ∷ p2 ∷ []) l hs turns)) (sym actors)
-    (subst (λ (l : List (List ℕ)). IsScript (declared (p0 ∷ p1 ∷ p2 ∷ []) (x0 ∷ x1 ∷ x2 ∷ x3 ∷ x4 ∷ x5 ∷ []) l turns)) (sym handles)
-    (subst (λ (l : List ℕ). IsScript (declared (p0 ∷ p1 ∷ p2 ∷ []) (x0 ∷ x1 ∷ x2 ∷ x3 ∷ x4 ∷ x5 ∷ []) (h0 ∷ h1 ∷ []) l)) (sym none) h)))
+    → IsScript (declared ps xs hs ms turns)
+script_is ps xs hs ms turns p0 p1 p2 x0 x1 x2 x3 x4 x5 h0 h1 processes actors handles no_mirrors none h =
+    subst (λ (l : List DeclaredProcess). IsScript (declared l xs hs ms turns)) (sym processes)
+    (subst (λ (l : List DeclaredActor). IsScript (declared (p0 ∷ p1 ∷ p2 ∷ []) l hs ms turns)) (sym actors)
+    (subst (λ (l : List (List ℕ)). IsScript (declared (p0 ∷ p1 ∷ p2 ∷ []) (x0 ∷ x1 ∷ x2 ∷ x3 ∷ x4 ∷ x5 ∷ []) l ms turns)) (sym handles)
+    (subst (λ (l : List (List ℕ)). IsScript (declared (p0 ∷ p1 ∷ p2 ∷ []) (x0 ∷ x1 ∷ x2 ∷ x3 ∷ x4 ∷ x5 ∷ []) (h0 ∷ h1 ∷ []) l turns)) (sym no_mirrors)
+    (subst (λ (l : List ℕ). IsScript (declared (p0 ∷ p1 ∷ p2 ∷ []) (x0 ∷ x1 ∷ x2 ∷ x3 ∷ x4 ∷ x5 ∷ []) (h0 ∷ h1 ∷ []) [] l)) (sym none) h))))
 
-pub new-requires-2 : goal.new-requires-2
-new-requires-2 c =
+pub new-requires-3 : goal.new-requires-3
+new-requires-3 c =
     let P0 = c.in_ok-process.field-0 in
     let P1 = c.in_ok-process-2.field-0 in
     let P2 = c.in_ok-process-3.field-0 in
@@ -292,14 +294,14 @@ new-requires-2 c =
     let ops0 : X0.ops.items ≡ c.args.first.items = c.in_ok-thread.ensures.ops in
     let ops1 : X1.ops.items ≡ c.args.second.items = c.in_ok-thread-2.ensures.ops in
     let ops2 : X2.ops.items ≡ c.args.third.items = c.in_ok-thread-3.ensures.ops in
-    script_is c.push-3.new.self.items c.push-9.new.self.items (map string_bytes c.push-11.new.self.items) c.new.result.items P0 P1 P2 X0 X1 X2 X3 X4 X5 (string_bytes H0) (string_bytes H1)
+    script_is c.push-3.new.self.items c.push-9.new.self.items (map string_bytes c.push-11.new.self.items) (map string_bytes c.new.result.items) c.new-2.result.items P0 P1 P2 X0 X1 X2 X3 X4 X5 (string_bytes H0) (string_bytes H1)
     (pushed c.new-processes.result.items c.push.new.self.items c.push-2.new.self.items c.push-3.new.self.items P0 P1 P2 c.new-processes.ensures.items c.in_ok-push.ensures.items c.in_ok-push-2.ensures.items c.in_ok-push-3.ensures.items)
     (c.in_ok-push-9.ensures.items
     ∙ ap (λ (l : List DeclaredActor). l ++ X5 ∷ []) (c.in_ok-push-8.ensures.items
     ∙ ap (λ (l : List DeclaredActor). l ++ X4 ∷ []) (c.in_ok-push-7.ensures.items
     ∙ ap (λ (l : List DeclaredActor). l ++ X3 ∷ [])
     (pushed c.new-actors.result.items c.push-4.new.self.items c.push-5.new.self.items c.push-6.new.self.items X0 X1 X2 c.new-actors.ensures.items c.in_ok-push-4.ensures.items c.in_ok-push-5.ensures.items c.in_ok-push-6.ensures.items))))
-    (ap (λ hs. map string_bytes hs) (c.in_ok-push-11.ensures.items ∙ ap (λ hs. hs ++ H1 ∷ []) (c.in_ok-push-10.ensures.items ∙ ap (λ hs. hs ++ H0 ∷ []) c.new-handles.ensures.items))) c.new.ensures.items
+    (ap (λ hs. map string_bytes hs) (c.in_ok-push-11.ensures.items ∙ ap (λ hs. hs ++ H1 ∷ []) (c.in_ok-push-10.ensures.items ∙ ap (λ hs. hs ++ H0 ∷ []) c.new-handles.ensures.items))) (ap (λ ms. map string_bytes ms) c.new.ensures.items) c.new-2.ensures.items
     (are_script (process_value P0) (process_value P1) (process_value P2) (actor_value X0) (actor_value X1) (actor_value X2) (actor_value X3) (actor_value X4) (actor_value X5) (string_bytes H0) (string_bytes H1)
     c.in_ok-process-3.ensures c.in_ok-thread.ensures.kind c.in_ok-thread-2.ensures.kind c.in_ok-thread-3.ensures.kind c.in_ok-thread-4.ensures.kind c.in_ok-thread-5.ensures.kind c.in_ok-thread-6.ensures.kind
     (subst (λ (ops : List Op). All IsOp ops) (c.deref.ensures.value ∙ sym ops0) (c.if-not-are_ops.ensures.range refl))
