@@ -23,9 +23,9 @@ use gup_base::NoMemory;
 use gup_core::Machine;
 use gup_io::{ReadToEnd, Sink, Source, read_up_to, write_all};
 use gup_law_journal::{
-    core_run_follows, core_run_is_in_order, core_run_is_plain,
-    core_run_is_thorough, finished_runs_answer_all, looks_have_their_cause,
-    moves_have_their_causes, no_frame_has_its_cause, pins_have_their_causes, runs_end_at_waits,
+    core_run_follows, core_run_is_in_order, core_run_is_plain, core_run_is_thorough,
+    finished_runs_answer_all, looks_have_their_cause, moves_have_their_causes,
+    no_frame_has_its_cause, pins_have_their_causes, runs_end_at_waits,
 };
 use gup_law_mirrors::looks_are_stale_with_cause;
 use gup_law_owners::plain_journals_are_owned;
