@@ -111,6 +111,20 @@ enum Zone {
     Normal,
 }
 
+/// The parts of a transfer, each by where it begins and how many words it has: those from the first on that have words.
+type Parts = [(u64, u64); 8];
+
+/// Which word of the pin is the k-th of the parts.
+fn word_at(parts: &Parts, mut k: u64) -> u64 {
+    for (index, n) in parts {
+        if k < *n {
+            return index + k;
+        }
+        k -= n;
+    }
+    unreachable!("the parts have more words than k")
+}
+
 #[derive(Clone, Copy)]
 enum Op {
     Map { page: u64, n: u64, write: bool },
@@ -125,7 +139,7 @@ enum Op {
     Get { handle: usize, page: u64 },
     Put { handle: usize },
     Move { process: usize, page: u64, zone: Zone },
-    Transfer { handle: usize, outward: bool, index: u64, slot: u64, n: u64 },
+    Transfer { handle: usize, outward: bool, slot: u64, parts: Parts },
     Mirror { slot: usize, process: usize, page: u64 },
     Look { slot: usize, word: usize },
     Fork { child: usize },
@@ -396,7 +410,20 @@ impl<'s> Machine<'s> {
             "look" => Op::Look { slot: slot(names, words.next().unwrap()), word: number(words.next()) as usize },
             way @ ("out" | "in") => {
                 let handle = handle(names, words.next().unwrap());
-                Op::Transfer { handle, outward: way == "out", index: number(words.next()), slot: number(words.next()), n: number(words.next()) }
+                let (index, slot, n) = (number(words.next()), number(words.next()), number(words.next()));
+                let mut parts = [(0, 0); 8];
+                parts[0] = (index, n);
+                Op::Transfer { handle, outward: way == "out", slot, parts }
+            }
+            way @ ("outv" | "inv") => {
+                let handle = handle(names, words.next().unwrap());
+                let slot = number(words.next());
+                let mut parts = [(0, 0); 8];
+                for (part, word) in parts.iter_mut().zip(words) {
+                    let (index, n) = word.split_once(':').unwrap();
+                    *part = (index.parse().unwrap(), n.parse().unwrap());
+                }
+                Op::Transfer { handle, outward: way == "outv", slot, parts }
             }
             "fork" => Op::Fork { child: process(names, words.next().unwrap()) },
             "exit" => Op::Exit,
@@ -489,7 +516,7 @@ impl<'s> Machine<'s> {
             Op::Get { handle, page } => self.get(a, handle, page),
             Op::Put { handle } => self.put(a, handle),
             Op::Move { process, page, zone } => self.migrate(a, process, page, zone),
-            Op::Transfer { handle, outward, index, slot, n } => self.transfer(a, handle, outward, index, slot, n),
+            Op::Transfer { handle, outward, slot, parts } => self.transfer(a, handle, outward, slot, &parts),
             Op::Mirror { slot, process, page } => self.mirror(a, slot, process, page),
             Op::Look { slot, word } => self.look(a, slot, word),
             Op::Fork { child } => self.fork(a, child),
@@ -834,7 +861,7 @@ impl<'s> Machine<'s> {
         self.answer(a, &text);
     }
 
-    fn transfer(&mut self, a: usize, handle: usize, outward: bool, index: u64, slot: u64, n: u64) {
+    fn transfer(&mut self, a: usize, handle: usize, outward: bool, slot: u64, parts: &Parts) {
         let (frames, may_write) = match &self.handles[handle] {
             Handle::Held(by, frames, write) if *by == a => (frames, *write),
             _ => return self.answer(a, "notheld"),
@@ -843,10 +870,12 @@ impl<'s> Machine<'s> {
         if !outward && !may_write {
             return self.answer(a, "forbidden");
         }
-        if index + n > (frames.len() * WORDS) as u64 || slot + n > actor.store.len() as u64 {
+        let n: u64 = parts.iter().map(|part| part.1).sum();
+        let within = parts.iter().all(|(index, n)| *n == 0 || index + n <= (frames.len() * WORDS) as u64);
+        if !within || slot + n > actor.store.len() as u64 {
             return self.answer(a, "range");
         }
-        let word = (index + actor.far) as usize;
+        let word = word_at(parts, actor.far) as usize;
         let place = frames[word / WORDS] * WORDS + word % WORDS;
         let at = (slot + actor.far) as usize;
         let value = if outward { self.frames.words[place] } else { actor.store[at] };

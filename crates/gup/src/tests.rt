@@ -319,10 +319,10 @@ const REFUSALS: [(&str, u32, Reason, &str); 7] = [
         "line 5: name\n",
     ),
     (
-        "gup 1\nframes 8 8 64\nprocess p\nthread t p\ndevice d 8\non t pin h 5 1 write\non d inv h 0 0:1 1:1\n",
+        "gup 1\nframes 8 8 64\nprocess p\nthread t p\ndevice d 8\non t pin h 5 1 write\non d inv h 0 0:33 1:32\n",
         7,
-        Reason::Later,
-        "line 7: later\n",
+        Reason::Number,
+        "line 7: number\n",
     ),
 ];
 

@@ -9,14 +9,15 @@ use Rattle.gup_script.specs.declared.op.Op.{Op}
 use Rattle.gup_spec_grammar.specs.declared.fault.Reason.{Reason}
 use Rattle.gup_spec_grammar.specs.declared.fault.Reason.TheVariants as reasons
 use Rattle.gup_spec_grammar.specs.Spelling.{IsRange, IsPage, IsWordNo, IsAddress, IsIndex, IsCount}
-use Rattle.gup_spec_grammar.specs.Said.{Word, Action, maps, unmaps, protects, discards, loads, stores, exits, pins, gets, puts, forks, unpins, takes, gives, transfers, mirrors, looks, write_word, action_words, IsShaped, moves, long_words}
+use Rattle.gup_spec_grammar.specs.Said.{Word, Action, maps, unmaps, protects, discards, loads, stores, exits, pins, gets, puts, forks, unpins, takes, gives, transfers, transfers_parts, mirrors, looks, write_word, action_words, IsShaped, moves, long_words}
 use Rattle.gup_spec_grammar.specs.Outline.{Outline, with_operation}
 use Rattle.gup_script.specs.Limits.{most_operations, most_pinned, most_words}
-use Rattle.gup_spec_grammar.specs.Grammar.{ActionNumbers, ActionNames, ActionOnce, ActionLimits, NamesPin, NamesGot, NamesActor, NamesMirror, Means, IsBuilt, with_declared, Does}
+use Rattle.gup_spec_grammar.specs.Grammar.{ActionNumbers, ActionNames, ActionOnce, ActionLimits, NamesPin, NamesGot, NamesActor, NamesMirror, Means, with_declared, Does}
 use Rattle.gup_spec_grammar.specs.Fault.{ActionFault}
-use Rattle.gup_read.specs.Reading.{◌>>=◌, check, need, with_made}
+use Rattle.gup_read.specs.Reading.{◌>>=◌, check, with_made}
 use Rattle.gup_read.proofs.Chains.{Tried, stops, goes, checked, both, carried, tried_ok, tried_err, tried_pass, tried_stop}
-use Rattle.gup_read.proofs.Judged.{Ends, built, later, Judged, IsSlot}
+use Rattle.gup_read.proofs.BuiltParts.{segments_one}
+use Rattle.gup_read.proofs.Judged.{Ends, built, Judged, IsSlot}
 
 -- ---- what an action means
 
@@ -103,7 +104,11 @@ means_one st (looks mirror word) x y h g =
     let same = one_mirror st mirror h.0 g.0 h.2 g.2 in
     let at = one_word_no word h.1 g.1 h.3 g.3 in
     cc (h.4, g.4)
-means_one st _ x y h g = absurd h
+means_one st (transfers_parts outward handle slot first more) x y h g =
+    let same = one_pin st handle h.0 g.0 h.3 g.3 in
+    let other = one_index slot h.1 g.1 h.4 g.4 in
+    let moved = segments_one (first ∷ more) h.2 g.2 h.5.0 g.5.0 in
+    cc (h.6, g.6)
 
 -- ---- what an action declares
 
@@ -137,7 +142,7 @@ made_declared st a (mirrors mirror process page) op word fields m same =
     let behind : fields ≡ mirror ∷ process ∷ page ∷ [] = ap behind_first same in
     rw (m.6, behind) refl
 made_declared st a (looks mirror word) op first fields m same = rw m.4 refl
-made_declared st a _ op word fields m same = absurd m
+made_declared st a (transfers_parts outward handle slot first more) op word fields m same = rw m.6 refl
 
 -- ---- an action of an actor, with all its tests
 
@@ -145,7 +150,7 @@ abbrev Done : Outline → (actor : ℕ) → Action → Result Outline Reason →
 Done st a action result = (op : Op) × Means st action op × (result ≡ Ok (with_operation a op (with_declared a action st)))
 
 abbrev Limited : Outline → (actor : ℕ) → Action → Result Outline Reason → Type 0
-Limited st a action = Tried reasons.Limit (ActionLimits st action) (Tried reasons.Later (IsBuilt action) (Done st a action))
+Limited st a action = Tried reasons.Limit (ActionLimits st action) (Done st a action)
 
 abbrev pub Acts : Outline → (actor : ℕ) → Action → Result Outline Reason → Type 0
 Acts st a action =
@@ -155,19 +160,16 @@ Acts st a action =
     (Tried reasons.Twice (ActionOnce st action) (Limited st a action))))
 
 -- what is left to do once the words are judged
-abbrev pub placed : Outline → (actor : ℕ) → (fields : List Word) → Option Op → Result Outline Reason
+abbrev pub placed : Outline → (actor : ℕ) → (fields : List Word) → Op → Result Outline Reason
 placed st a fields op =
-    check reasons.Limit (nat_lt st.operations most_operations) >>= λ _. need reasons.Later op >>= λ o. Ok (with_operation a o (with_made a o fields st))
+    check reasons.Limit (nat_lt st.operations most_operations) >>= λ _. Ok (with_operation a op (with_made a op fields st))
 
-ended : (st : Outline) (a : ℕ) (action : Action) (word : Word) (fields : List Word) (result : Result (Option Op) Reason) → word ∷ fields ≡ action_words action → Ends st action result → Tried reasons.Limit (st.operations < most_operations) (Tried reasons.Later (IsBuilt action) (Done st a action)) (result >>= placed st a fields)
-ended st a action word fields result same (built op given now means) =
-    subst (λ (r : Result (Option Op) Reason). Tried reasons.Limit (st.operations < most_operations) (Tried reasons.Later (IsBuilt action) (Done st a action)) (r >>= placed st a fields)) (sym given)
-    (checked _ (Decides-ltb st.operations most_operations) (λ l. goes now (op, means, ap (λ (next : Outline). Ok (with_operation a op next)) (made_declared st a action op word fields means same))))
-ended st a action word fields result same (later given unbuilt) =
-    subst (λ (r : Result (Option Op) Reason). Tried reasons.Limit (st.operations < most_operations) (Tried reasons.Later (IsBuilt action) (Done st a action)) (r >>= placed st a fields)) (sym given)
-    (checked _ (Decides-ltb st.operations most_operations) (λ l. stops refl unbuilt))
+ended : (st : Outline) (a : ℕ) (action : Action) (word : Word) (fields : List Word) (result : Result Op Reason) → word ∷ fields ≡ action_words action → Ends st action result → Tried reasons.Limit (st.operations < most_operations) (Done st a action) (result >>= placed st a fields)
+ended st a action word fields result same (built op given means) =
+    subst (λ (r : Result Op Reason). Tried reasons.Limit (st.operations < most_operations) (Done st a action) (r >>= placed st a fields)) (sym given)
+    (checked _ (Decides-ltb st.operations most_operations) (λ l. (op, means, ap (λ (next : Outline). Ok (with_operation a op next)) (made_declared st a action op word fields means same))))
 
-pub acts : (st : Outline) (a : ℕ) (action : Action) (word : Word) (fields : List Word) (result : Result (Option Op) Reason) → word ∷ fields ≡ action_words action → Judged st a action result → Acts st a action (result >>= placed st a fields)
+pub acts : (st : Outline) (a : ℕ) (action : Action) (word : Word) (fields : List Word) (result : Result Op Reason) → word ∷ fields ≡ action_words action → Judged st a action result → Acts st a action (result >>= placed st a fields)
 acts st a action word fields result same =
     carried _ (carried _ (carried _ (carried _ (λ t. both (carried _ (ended st a action word fields result same) t)))))
 
@@ -181,10 +183,9 @@ acts_ok st a action result next t e =
     let names = tried_ok numbers.1 e in
     let once = tried_ok names.1 e in
     let limits = tried_ok once.1 e in
-    let all = tried_ok limits.1 e in
-    let done = all.1 in
+    let done = limits.1 in
     let given : all_right (with_operation a done.0 (with_declared a action st)) ≡ all_right next = sym done.2 ∙ e in
-    (shaped.0, numbers.0, names.0, once.0, limits.0, all.0, (done.0, done.1, cc))
+    (shaped.0, numbers.0, names.0, once.0, limits.0, (done.0, done.1, cc))
 
 pub acts_read : (st : Outline) (a : ℕ) (action : Action) (result : Result Outline Reason) (next : Outline) → Acts st a action result → Does st a action next → result ≡ Ok next
 acts_read st a action result next t h =
@@ -192,24 +193,23 @@ acts_read st a action result next t h =
     let names = tried_pass numbers h.1 in
     let once = tried_pass names h.2 in
     let limits = tried_pass once h.3 in
-    let all = tried_pass limits h.4 in
-    let does = h.6 in
-    let done = tried_pass all h.5 in
+    let does = h.5 in
+    let done = tried_pass limits h.4 in
     let one = means_one st action done.0 does.0 done.1 does.1 in
     done.2 ∙ ap (λ (op : Op). Ok (with_operation a op (with_declared a action st))) one ∙ ap (λ (s : Outline). Ok s) (sym does.2)
 
 pub acts_err : (st : Outline) (a : ℕ) (action : Action) (result : Result Outline Reason) (q : Reason) → Acts st a action result → result ≡ Err q → ActionFault st a action q
 acts_err st a action result q t e =
     tried_err t e (λ numbers. tried_err numbers e (λ names. tried_err names e (λ once.
-    tried_err once e (λ limits. tried_err limits e (λ all. late all))))) where
-      late : Tried reasons.Later (IsBuilt action) (Done st a action) result → (q ≡ reasons.Later) × (IsBuilt action → ⊥)
+    tried_err once e (λ limits. late limits)))) where
+      late : Tried reasons.Limit (ActionLimits st action) (Done st a action) result → (q ≡ reasons.Limit) × (ActionLimits st action → ⊥)
       late (stops because failed) = (cc, failed)
       late (goes passed on) = absurd (cc (on.2))
 
 pub acts_stop : (st : Outline) (a : ℕ) (action : Action) (result : Result Outline Reason) (q : Reason) → Acts st a action result → ActionFault st a action q → result ≡ Err q
 acts_stop st a action result q t f =
     tried_stop t f (λ numbers f1. tried_stop numbers f1 (λ names f2. tried_stop names f2 (λ once f3.
-    tried_stop once f3 (λ limits f4. tried_stop limits f4 (λ all f5. late all f5))))) where
-      late : Tried reasons.Later (IsBuilt action) (Done st a action) result → (q ≡ reasons.Later) × (IsBuilt action → ⊥) → result ≡ Err q
+    tried_stop once f3 (λ limits f4. late limits f4)))) where
+      late : Tried reasons.Limit (ActionLimits st action) (Done st a action) result → (q ≡ reasons.Limit) × (ActionLimits st action → ⊥) → result ≡ Err q
       late (stops because failed) f = cc
       late (goes passed on) f = absurd (f.1 passed)

@@ -33,39 +33,39 @@ rights_found word rights e = way (bytes_eq word (codes "r")) refl (bytes_eq word
 pub map_told : (st : Outline) (a : ℕ) (fields : List Word) → Told st a (codes "map" ∷ fields) (map_in fields)
 unfolding map_in
 map_told st a (first ∷ count ∷ allowed ∷ []) = way (rights_in allowed) refl where
-  way : (o : Option Rights) → rights_in allowed ≡ o → Told st a (codes "map" ∷ first ∷ count ∷ allowed ∷ []) (need reasons.Shape o >>= λ rights. need reasons.Number (range_in 1024 first count) >>= λ range. Ok (Some (ops.Map range.0 range.1 rights)))
+  way : (o : Option Rights) → rights_in allowed ≡ o → Told st a (codes "map" ∷ first ∷ count ∷ allowed ∷ []) (need reasons.Shape o >>= λ rights. need reasons.Number (range_in 1024 first count) >>= λ range. Ok (ops.Map range.0 range.1 rights))
   way None e = inr (refl, ap (said_with (maps first count)) e)
   way (Some rights) e =
       inl (
         maps first count rights,
         ap (λ (w : Word). codes "map" ∷ first ∷ count ∷ w ∷ []) (rights_found allowed rights e),
-        goes tt (range_step 1024 first count _ (λ page n h. goes tt (goes tt (goes tt (built (ops.Map page n rights) refl tt (page, n, h, refl)))))),
+        goes tt (range_step 1024 first count _ (λ page n h. goes tt (goes tt (goes tt (built (ops.Map page n rights) refl (page, n, h, refl)))))),
       )
 map_told st a _ = inr (refl, refl)
 
 pub protect_told : (st : Outline) (a : ℕ) (fields : List Word) → Told st a (codes "protect" ∷ fields) (protect_in fields)
 unfolding protect_in
 protect_told st a (first ∷ count ∷ allowed ∷ []) = way (rights_in allowed) refl where
-  way : (o : Option Rights) → rights_in allowed ≡ o → Told st a (codes "protect" ∷ first ∷ count ∷ allowed ∷ []) (need reasons.Shape o >>= λ rights. need reasons.Number (range_in 1024 first count) >>= λ range. Ok (Some (ops.Protect range.0 range.1 rights)))
+  way : (o : Option Rights) → rights_in allowed ≡ o → Told st a (codes "protect" ∷ first ∷ count ∷ allowed ∷ []) (need reasons.Shape o >>= λ rights. need reasons.Number (range_in 1024 first count) >>= λ range. Ok (ops.Protect range.0 range.1 rights))
   way None e = inr (refl, ap (said_with (protects first count)) e)
   way (Some rights) e =
       inl (
         protects first count rights,
         ap (λ (w : Word). codes "protect" ∷ first ∷ count ∷ w ∷ []) (rights_found allowed rights e),
-        goes tt (range_step 1024 first count _ (λ page n h. goes tt (goes tt (goes tt (built (ops.Protect page n rights) refl tt (page, n, h, refl)))))),
+        goes tt (range_step 1024 first count _ (λ page n h. goes tt (goes tt (goes tt (built (ops.Protect page n rights) refl (page, n, h, refl)))))),
       )
 protect_told st a _ = inr (refl, refl)
 
 pub unmap_told : (st : Outline) (a : ℕ) (fields : List Word) → Told st a (codes "unmap" ∷ fields) (unmap_in fields)
 unfolding unmap_in
 unmap_told st a (first ∷ count ∷ []) =
-    inl (unmaps first count, refl, goes tt (range_step 1024 first count _ (λ page n h. goes tt (goes tt (goes tt (built (ops.Unmap page n) refl tt (page, n, h, refl)))))))
+    inl (unmaps first count, refl, goes tt (range_step 1024 first count _ (λ page n h. goes tt (goes tt (goes tt (built (ops.Unmap page n) refl (page, n, h, refl)))))))
 unmap_told st a _ = inr (refl, refl)
 
 pub discard_told : (st : Outline) (a : ℕ) (fields : List Word) → Told st a (codes "discard" ∷ fields) (discard_in fields)
 unfolding discard_in
 discard_told st a (first ∷ count ∷ []) =
-    inl (discards first count, refl, goes tt (range_step 1024 first count _ (λ page n h. goes tt (goes tt (goes tt (built (ops.Discard page n) refl tt (page, n, h, refl)))))))
+    inl (discards first count, refl, goes tt (range_step 1024 first count _ (λ page n h. goes tt (goes tt (goes tt (built (ops.Discard page n) refl (page, n, h, refl)))))))
 discard_told st a _ = inr (refl, refl)
 
 -- ---- load, store, fork, exit
@@ -73,7 +73,7 @@ discard_told st a _ = inr (refl, refl)
 pub load_told : (st : Outline) (a : ℕ) (fields : List Word) → Told st a (codes "load" ∷ fields) (load_in fields)
 unfolding load_in
 load_told st a (address ∷ []) =
-    inl (loads address, refl, goes tt (address_step address _ (λ page w h. goes tt (goes tt (goes tt (built (ops.Load page w) refl tt (page, w, h, refl)))))))
+    inl (loads address, refl, goes tt (address_step address _ (λ page w h. goes tt (goes tt (goes tt (built (ops.Load page w) refl (page, w, h, refl)))))))
 load_told st a _ = inr (refl, refl)
 
 pub store_told : (st : Outline) (a : ℕ) (fields : List Word) → Told st a (codes "store" ∷ fields) (store_in fields)
@@ -82,7 +82,7 @@ store_told st a (address ∷ value ∷ []) =
     inl (
       stores address value,
       refl,
-      goes tt (both (address_step address _ (λ page w h. number_step value _ (λ v g. goes tt (goes tt (goes tt (built (ops.Store page w v) refl tt (page, w, v, h, g, refl)))))))),
+      goes tt (both (address_step address _ (λ page w h. number_step value _ (λ v g. goes tt (goes tt (goes tt (built (ops.Store page w v) refl (page, w, v, h, g, refl)))))))),
     )
 store_told st a _ = inr (refl, refl)
 
@@ -92,13 +92,13 @@ fork_told st a (child ∷ []) =
     inl (
       forks child,
       refl,
-      goes tt (goes tt (child_step st child _ (λ p h. checked _ (unforked_Decides st child p h) (λ u. goes tt (built (ops.Fork p) refl tt (p, h, refl)))))),
+      goes tt (goes tt (child_step st child _ (λ p h. checked _ (unforked_Decides st child p h) (λ u. goes tt (built (ops.Fork p) refl (p, h, refl)))))),
     )
 fork_told st a _ = inr (refl, refl)
 
 pub exit_told : (st : Outline) (a : ℕ) (fields : List Word) → Told st a (codes "exit" ∷ fields) (exit_in fields)
 unfolding exit_in
-exit_told st a [] = inl (exits, refl, goes tt (goes tt (goes tt (goes tt (goes tt (built ops.Exit refl tt refl))))))
+exit_told st a [] = inl (exits, refl, goes tt (goes tt (goes tt (goes tt (goes tt (built ops.Exit refl refl))))))
 exit_told st a _ = inr (refl, refl)
 
 -- ---- moves
@@ -113,12 +113,12 @@ zone_found word zone e = way (bytes_eq word (codes "normal")) refl (bytes_eq wor
 pub move_told : (st : Outline) (a : ℕ) (fields : List Word) → Told st a (codes "move" ∷ fields) (move_in st fields)
 unfolding move_in
 move_told st a (process ∷ page ∷ word ∷ []) = way (zone_in word) refl where
-  way : (o : Option Zone) → zone_in word ≡ o → Told st a (codes "move" ∷ process ∷ page ∷ word ∷ []) (need reasons.Shape o >>= λ z. need reasons.Number (page_in page) >>= λ g. need reasons.Name (process_of (find st.names process)) >>= λ p. Ok (Some (ops.Move p g z)))
+  way : (o : Option Zone) → zone_in word ≡ o → Told st a (codes "move" ∷ process ∷ page ∷ word ∷ []) (need reasons.Shape o >>= λ z. need reasons.Number (page_in page) >>= λ g. need reasons.Name (process_of (find st.names process)) >>= λ p. Ok (ops.Move p g z))
   way None e = inr (refl, ap (said_with (moves process page)) e)
   way (Some zone) e =
       inl (
         moves process page zone,
         ap (λ (w : Word). codes "move" ∷ process ∷ page ∷ w ∷ []) (zone_found word zone e),
-        goes tt (page_step page _ (λ g h. process_step st process _ (λ p is. goes tt (goes tt (built (ops.Move p g zone) refl tt (p, g, is, h, refl)))))),
+        goes tt (page_step page _ (λ g h. process_step st process _ (λ p is. goes tt (goes tt (built (ops.Move p g zone) refl (p, g, is, h, refl)))))),
       )
 move_told st a _ = inr (refl, refl)

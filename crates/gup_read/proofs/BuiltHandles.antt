@@ -31,8 +31,8 @@ way_again true = refl
 way_again false = refl
 
 -- a pin is built
-pin_ends : (st : Outline) (fast long write : Bool) (handle first count : Word) (page n : ℕ) → IsRange most_pinned first count page n → Ends st (pins fast handle first count write long) (Ok (Some (ops.Pin (length st.script.handles) page n (want_of write long) fast)))
-pin_ends st fast long write handle first count page n h = built (ops.Pin (length st.script.handles) page n (want_of write long) fast) refl tt (page, n, h, refl)
+pin_ends : (st : Outline) (fast long write : Bool) (handle first count : Word) (page n : ℕ) → IsRange most_pinned first count page n → Ends st (pins fast handle first count write long) (Ok (ops.Pin (length st.script.handles) page n (want_of write long) fast))
+pin_ends st fast long write handle first count page n h = built (ops.Pin (length st.script.handles) page n (want_of write long) fast) refl (page, n, h, refl)
 
 pin_judged : (st : Outline) (a : ℕ) (fast long write : Bool) (handle first count : Word) → Judged st a (pins fast handle first count write long) (pinned_in fast long st handle first count (write_word write))
 unfolding pinned_in
@@ -82,13 +82,13 @@ pin_told st a false _ = inr (refl, refl)
 pub unpin_told : (st : Outline) (a : ℕ) (fields : List Word) → Told st a (codes "unpin" ∷ fields) (unpin_in st fields)
 unfolding unpin_in
 unpin_told st a (handle ∷ []) =
-    inl (unpins handle, refl, goes tt (goes tt (pin_step st handle _ (λ h is. goes tt (goes tt (built (ops.Unpin h) refl tt (h, is, refl)))))))
+    inl (unpins handle, refl, goes tt (goes tt (pin_step st handle _ (λ h is. goes tt (goes tt (built (ops.Unpin h) refl (h, is, refl)))))))
 unpin_told st a _ = inr (refl, refl)
 
 pub take_told : (st : Outline) (a : ℕ) (fields : List Word) → Told st a (codes "take" ∷ fields) (take_in st fields)
 unfolding take_in
 take_told st a (handle ∷ []) =
-    inl (takes handle, refl, goes tt (goes tt (pin_step st handle _ (λ h is. goes tt (goes tt (built (ops.Take h) refl tt (h, is, refl)))))))
+    inl (takes handle, refl, goes tt (goes tt (pin_step st handle _ (λ h is. goes tt (goes tt (built (ops.Take h) refl (h, is, refl)))))))
 take_told st a _ = inr (refl, refl)
 
 pub give_told : (st : Outline) (a : ℕ) (fields : List Word) → Told st a (codes "give" ∷ fields) (give_in st fields)
@@ -98,7 +98,7 @@ give_told st a (handle ∷ to ∷ []) =
       gives handle to,
       refl,
       goes tt (goes tt (both (pin_step st handle _ (λ h is. receiver_step st to _ (λ b at.
-          goes tt (goes tt (built (ops.Give h b) refl tt (h, b, is, at, refl)))))))),
+          goes tt (goes tt (built (ops.Give h b) refl (h, b, is, at, refl)))))))),
     )
 give_told st a _ = inr (refl, refl)
 
@@ -112,14 +112,14 @@ get_told st a (handle ∷ page ∷ []) =
       refl,
       goes tt (page_step page _ (λ p h.
           checked _ (name_Decides handle) (λ g. checked _ (unused_Decides st.names handle) (λ u.
-          handle_step st _ (built (ops.Get (length st.script.handles) p) refl tt (p, h, refl)))))),
+          handle_step st _ (built (ops.Get (length st.script.handles) p) refl (p, h, refl)))))),
     )
 get_told st a _ = inr (refl, refl)
 
 pub put_told : (st : Outline) (a : ℕ) (fields : List Word) → Told st a (codes "put" ∷ fields) (put_in st fields)
 unfolding put_in
 put_told st a (handle ∷ []) =
-    inl (puts handle, refl, goes tt (goes tt (got_step st handle _ (λ h is. goes tt (goes tt (built (ops.Put h) refl tt (h, is, refl)))))))
+    inl (puts handle, refl, goes tt (goes tt (got_step st handle _ (λ h is. goes tt (goes tt (built (ops.Put h) refl (h, is, refl)))))))
 put_told st a _ = inr (refl, refl)
 
 -- ---- transfers
@@ -131,7 +131,7 @@ transfer_told st a outward (handle ∷ index ∷ slot ∷ count ∷ []) =
       transfers outward handle index slot count,
       refl,
       goes tt (all_three (index_step index _ (λ i hi. index_step slot _ (λ s hs. count_step 1 most_words count _ (lit< tt) (λ n hn.
-          pin_step st handle _ (λ h is. goes tt (goes tt (built (ops.Transfer h outward s ((i, n) ∷ [])) refl tt (h, i, s, n, is, hi, hs, hn, refl))))))))),
+          pin_step st handle _ (λ h is. goes tt (goes tt (built (ops.Transfer h outward s ((i, n) ∷ [])) refl (h, i, s, n, is, hi, hs, hn, refl))))))))),
     )
 transfer_told st a true _ = inr (refl, refl)
 transfer_told st a false _ = inr (refl, refl)

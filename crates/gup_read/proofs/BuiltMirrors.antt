@@ -17,7 +17,7 @@ mirror_told st a (mirror ∷ process ∷ page ∷ []) =
       refl,
       goes tt (page_step page _ (λ g h.
           both (checked _ (slot_Decides a mirror (find st.names mirror)) (λ own. process_step st process _ (λ p is.
-          goes tt (slot_step st a mirror _ own (λ m at. built (ops.Mirror m p g) refl tt (m, p, g, at, is, h, refl)))))))),
+          goes tt (slot_step st a mirror _ own (λ m at. built (ops.Mirror m p g) refl (m, p, g, at, is, h, refl)))))))),
     )
 mirror_told st a _ = inr (refl, refl)
 
@@ -27,6 +27,6 @@ look_told st a (mirror ∷ word ∷ []) =
     inl (
       looks mirror word,
       refl,
-      goes tt (word_no_step word _ (λ w h. own_step st a mirror _ (λ m is. goes tt (goes tt (built (ops.Look m w) refl tt (m, w, is, h, refl)))))),
+      goes tt (word_no_step word _ (λ w h. own_step st a mirror _ (λ m is. goes tt (goes tt (built (ops.Look m w) refl (m, w, is, h, refl)))))),
     )
 look_told st a _ = inr (refl, refl)

@@ -1,5 +1,4 @@
--- What an `on` line's action comes to: its tests in their order, and then an operation, or none where its kind comes
--- later. For each form that a test has in the reader, the condition in the grammar that it tests.
+-- What an `on` line's action comes to: its tests in their order, and then an operation. For each form that a test has in the reader, the condition in the grammar that it tests.
 use Rattle.std.proofs.Common.{◌≡◌, ℕ, ◌^◌, ◌<◌, Bool, true, false, not, cond, ltb, List, length, Option, Some, None, Result, Ok, Err, refl, ap, ◌⊎◌, inl, inr, ◌==◌, ◌∙◌}
 use Rattle.std.specs.Bool.{Decides}
 use Rattle.std.proofs.lemmas.Bool.{ltb-true, lt-ltb}
@@ -18,7 +17,7 @@ use Rattle.gup_spec_grammar.specs.declared.fault.Reason.TheVariants as reasons
 use Rattle.gup_spec_grammar.specs.Said.{Word, Action, action_words, IsShaped}
 use Rattle.gup_spec_grammar.specs.Outline.{Outline, is_child, is_forked, next_handle, slot_of, is_receiver}
 use Rattle.gup_script.specs.Limits.{most_handles, most_mirrors}
-use Rattle.gup_spec_grammar.specs.Grammar.{ActionNumbers, ActionNames, ActionOnce, DeclaredLimits, Means, IsBuilt, NamesProcess, NamesActor, NamesPin, NamesGot, IsUnused, IsMirrorOf, NamesMirror}
+use Rattle.gup_spec_grammar.specs.Grammar.{ActionNumbers, ActionNames, ActionOnce, DeclaredLimits, Means, NamesProcess, NamesActor, NamesPin, NamesGot, IsUnused, IsMirrorOf, NamesMirror}
 use Rattle.gup_read.specs.Reading.{◌>>=◌, check, need}
 use Rattle.gup_read_outline.specs.Named.{process_of, actor_of, pin_of, got_of, mirror_of, is_mirror_of, may_mirror}
 use Rattle.gup_read.proofs.Chains.{Tried, stops, goes, needed}
@@ -26,11 +25,10 @@ use Rattle.gup_read.proofs.ActionWords.{action_in}
 
 -- ---- what an action comes to
 
-pub data Ends (st : Outline) (action : Action) (result : Result (Option Op) Reason) : Type 0 where
-  built : (op : Op) → (given : result ≡ Ok (Some op)) → (now : IsBuilt action) → (means : Means st action op) → Ends st action result
-  later : (given : result ≡ Ok None) → (unbuilt : IsBuilt action → ⊥) → Ends st action result
+pub data Ends (st : Outline) (action : Action) (result : Result Op Reason) : Type 0 where
+  built : (op : Op) → (given : result ≡ Ok op) → (means : Means st action op) → Ends st action result
 
-abbrev pub Judged : Outline → (actor : ℕ) → Action → Result (Option Op) Reason → Type 0
+abbrev pub Judged : Outline → (actor : ℕ) → Action → Result Op Reason → Type 0
 Judged st a action =
     Tried reasons.Shape (IsShaped action)
     (Tried reasons.Number (ActionNumbers action)
@@ -39,7 +37,7 @@ Judged st a action =
     (Tried reasons.Limit (DeclaredLimits st action) (Ends st action)))))
 
 -- what words come to: they say an action, or none
-abbrev pub Told : Outline → (actor : ℕ) → List Word → Result (Option Op) Reason → Type 0
+abbrev pub Told : Outline → (actor : ℕ) → List Word → Result Op Reason → Type 0
 Told st a words result =
     ((action : Action) × (words ≡ action_words action) × Judged st a action result)
     ⊎ ((result ≡ Err reasons.Shape) × (action_in words ≡ None))

@@ -15,7 +15,7 @@ pub mod Judged
 pub mod BuiltActions
 pub mod BuiltHandles
 pub mod BuiltMirrors
-pub mod LaterDevices
+pub mod BuiltParts
 pub mod Choices
 pub mod OpChoices
 pub mod Acting
@@ -27,7 +27,6 @@ pub mod Standing
 pub mod Meant
 pub mod Operating
 pub mod Validity
-pub mod Parts
 pub mod Turners
 pub mod Cuts
 pub mod Answers

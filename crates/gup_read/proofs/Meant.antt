@@ -14,11 +14,12 @@ use Rattle.gup_script.specs.Script.{Actor, process_at}
 use Rattle.gup_spec_grammar.specs.Names.{find}
 use Rattle.gup_spec_grammar.specs.declared.named.Named.{Named}
 use Rattle.gup_spec_grammar.specs.Outline.{Outline, with_handle, with_reference, with_slot, is_child, is_forked}
-use Rattle.gup_spec_grammar.specs.Said.{Word, Action, maps, unmaps, protects, discards, loads, stores, exits, pins, gets, puts, forks, unpins, takes, gives, transfers, mirrors, looks, action_words, op_words, op_words_of, moves}
+use Rattle.gup_spec_grammar.specs.Said.{Word, Action, maps, unmaps, protects, discards, loads, stores, exits, pins, gets, puts, forks, unpins, takes, gives, transfers, transfers_parts, mirrors, looks, action_words, op_words, op_words_of, moves}
 use Rattle.gup_spec_grammar.specs.Grammar.{NamesProcess, NamesMirror, ActionNames, ActionOnce, DeclaredLimits, want_of, Means, with_declared, first_word}
 use Rattle.gup_script.specs.Valid.{IsOp, AreParts, FitsKind, IsOfThread, IsOfDevice, AreDeclared, made_by, IsOfMover}
 use Rattle.gup_read.proofs.Following.{none_among}
 use Rattle.gup_read.proofs.Forking.{IsForkOf, IsMaking, IsFresh, child_is, fork_makes_none, made_below, unforked}
+use Rattle.gup_read.proofs.BuiltParts.{parts_right}
 use Rattle.gup_read.proofs.Judged.{IsSlot}
 use Rattle.gup_read.proofs.Standing.{Stands}
 
@@ -57,7 +58,7 @@ is_op st (looks mirror word) op h m few =
     let within = h.mirrors_in mirror m.0 m.2 in
     let all = h.few_mirrors in
     subst IsOp (sym m.4) (omega arith, m.3.1)
-is_op st _ op h m few = absurd m
+is_op st (transfers_parts outward handle slot first more) op h m few = subst IsOp (sym m.6) (parts_right first more m.2 m.5, m.4.1)
 
 -- what it names is declared
 
@@ -97,7 +98,7 @@ declared st a (mirrors mirror process page) op h m names =
     let within = h.processes_in process m.1 m.4 in
     subst (AreDeclared (with_slot a mirror (find st.names mirror) st).script) (sym m.6) (slot_declared st a mirror m.0 m.1 m.2 h m.3 within)
 declared st a (looks mirror word) op h m names = subst (AreDeclared st.script) (sym m.4) (h.mirrors_in mirror m.0 m.2)
-declared st a _ op h m names = absurd m
+declared st a (transfers_parts outward handle slot first more) op h m names = subst (AreDeclared st.script) (sym m.6) (h.pins_in handle m.0 m.3)
 
 -- ---- forks and pins
 
@@ -163,7 +164,7 @@ fits st a (mirrors mirror process page) op h m once =
     subst (λ (actors : List Actor). Fits actors op) (sym (slot_actors st a mirror (find st.names mirror)))
     (other_fits st.script.actors op (λ child is. absurd (cc (m.6, is)), λ number is. absurd (let none = ap made_by m.6 in cc (none, is))))
 fits st a (looks mirror word) op h m once = other_fits st.script.actors op (λ child is. absurd (cc (m.4, is)), λ number is. absurd (let none = ap made_by m.4 in cc (none, is)))
-fits st a _ op h m once = absurd m
+fits st a (transfers_parts outward handle slot first more) op h m once = other_fits st.script.actors op (λ child is. absurd (cc (m.6, is)), λ number is. absurd (let none = ap made_by m.6 in cc (none, is)))
 
 -- ---- the operation is one of its actor's kind
 
@@ -187,7 +188,8 @@ threads st (transfers true handle index slot count) op p m h = absurd (none_amon
 threads st (transfers false handle index slot count) op p m h = absurd (none_among (op_words (Thread p)) (codes "in") refl h)
 threads st (mirrors mirror process page) op p m h = absurd (none_among (op_words (Thread p)) (codes "mirror") refl h)
 threads st (looks mirror word) op p m h = absurd (none_among (op_words (Thread p)) (codes "look") refl h)
-threads st _ op p m h = absurd m
+threads st (transfers_parts true handle slot first more) op p m h = absurd (none_among (op_words (Thread p)) (codes "outv") refl h)
+threads st (transfers_parts false handle slot first more) op p m h = absurd (none_among (op_words (Thread p)) (codes "inv") refl h)
 
 devices : (st : Outline) (action : Action) (op : Op) (slots : ℕ) → Means st action op → Contains (op_words (Device slots)) (first_word (action_words action)) → IsOfDevice op
 devices st (maps first count rights) op slots m h = absurd (none_among (op_words (Device slots)) (codes "map") refl h)
@@ -209,7 +211,7 @@ devices st (gives handle to) op slots m h = subst IsOfDevice (sym m.4) tt
 devices st (transfers outward handle index slot count) op slots m h = subst IsOfDevice (sym m.8) tt
 devices st (mirrors mirror process page) op slots m h = subst IsOfDevice (sym m.6) tt
 devices st (looks mirror word) op slots m h = subst IsOfDevice (sym m.4) tt
-devices st _ op slots m h = absurd m
+devices st (transfers_parts outward handle slot first more) op slots m h = subst IsOfDevice (sym m.6) tt
 
 movers : (st : Outline) (action : Action) (op : Op) → Means st action op → Contains (op_words Mover) (first_word (action_words action)) → IsOfMover op
 movers st (maps first count rights) op m h = absurd (none_among (op_words Mover) (codes "map") refl h)
@@ -232,7 +234,8 @@ movers st (transfers true handle index slot count) op m h = absurd (none_among (
 movers st (transfers false handle index slot count) op m h = absurd (none_among (op_words Mover) (codes "in") refl h)
 movers st (mirrors mirror process page) op m h = absurd (none_among (op_words Mover) (codes "mirror") refl h)
 movers st (looks mirror word) op m h = absurd (none_among (op_words Mover) (codes "look") refl h)
-movers st _ op m h = absurd m
+movers st (transfers_parts true handle slot first more) op m h = absurd (none_among (op_words Mover) (codes "outv") refl h)
+movers st (transfers_parts false handle slot first more) op m h = absurd (none_among (op_words Mover) (codes "inv") refl h)
 
 kind_fits : (st : Outline) (action : Action) (op : Op) (kind : Kind) → Means st action op → Contains (op_words kind) (first_word (action_words action)) → FitsKind kind op
 kind_fits st action op (Thread p) m h = threads st action op p m h

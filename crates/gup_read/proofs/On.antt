@@ -27,7 +27,7 @@ SaysOp st a words result =
     ((action : Action) × (words ≡ action_words action) × Acts st a action result)
     ⊎ ((result ≡ Err reasons.Shape) × (action_in words ≡ None))
 
-says : (st : Outline) (a : ℕ) (word : Word) (fields : List Word) (result : Result (Option Op) Reason) → Told st a (word ∷ fields) result → SaysOp st a (word ∷ fields) (result >>= placed st a fields)
+says : (st : Outline) (a : ℕ) (word : Word) (fields : List Word) (result : Result Op Reason) → Told st a (word ∷ fields) result → SaysOp st a (word ∷ fields) (result >>= placed st a fields)
 says st a word fields result (inl t) = inl (t.0, t.1, acts st a t.0 word fields result t.1 t.2)
 says st a word fields result (inr t) = inr (ap (λ r. r >>= placed st a fields) t.0, t.1)
 

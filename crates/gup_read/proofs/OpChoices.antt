@@ -16,9 +16,9 @@ use Rattle.gup_read.proofs.Judged.{Told}
 use Rattle.gup_read.proofs.BuiltActions.{map_told, unmap_told, protect_told, discard_told, load_told, store_told, fork_told, exit_told, move_told}
 use Rattle.gup_read.proofs.BuiltHandles.{pin_told, get_told, put_told, unpin_told, take_told, give_told, transfer_told}
 use Rattle.gup_read.proofs.BuiltMirrors.{mirror_told, look_told}
-use Rattle.gup_read.proofs.LaterDevices.{parts_told}
+use Rattle.gup_read.proofs.BuiltParts.{parts_told}
 
-abbrev says : Outline → (actor : ℕ) → List Word → Word → Result (Option Op) Reason → Type 0
+abbrev says : Outline → (actor : ℕ) → List Word → Word → Result Op Reason → Type 0
 says st a fields word result = Told st a (word ∷ fields) result
 
 thread_chosen : (st : Outline) (a p : ℕ) (word : Word) (fields : List Word) → Chosen (says st a fields) word (op_words (Thread p)) (thread_op_in st word fields)

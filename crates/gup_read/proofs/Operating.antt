@@ -118,7 +118,7 @@ same_operations st a _ = refl
 
 pub stands_does : (st next : Outline) (a : ℕ) (action : Action) → Stands st → IsOpOf st a (first_word (action_words action)) → Does st a action next → Stands next
 stands_does st next a action h of d =
-    let op = d.6 in
+    let op = d.5 in
     let after = with_declared a action st in
     let t = fits_at st action op.0 (actor_at st.script a) op.1 of in
     let at : FitsAt after.script.actors a op.0 = subst (λ (actors : List Actor). FitsAt actors a op.0) (sym (same_actors st a action)) t in

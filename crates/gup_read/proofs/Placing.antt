@@ -8,13 +8,13 @@ use Rattle.gup_script.specs.Script.{Actor, actor_at}
 use Rattle.gup_spec_grammar.specs.Names.{find}
 use Rattle.gup_spec_grammar.specs.declared.named.Named.{Named}
 use Rattle.gup_spec_grammar.specs.declared.fault.Reason.{Reason}
-use Rattle.gup_spec_grammar.specs.Said.{Word, Action, maps, unmaps, protects, discards, loads, stores, exits, pins, gets, puts, forks, unpins, takes, gives, transfers, mirrors, looks, write_word, action_words, op_words_of, moves, long_words}
+use Rattle.gup_spec_grammar.specs.Said.{Word, Action, maps, unmaps, protects, discards, loads, stores, exits, pins, gets, puts, forks, unpins, takes, gives, transfers, transfers_parts, mirrors, looks, write_word, action_words, op_words_of, moves, long_words}
 use Rattle.gup_spec_grammar.specs.Outline.{Outline, with_slot}
 use Rattle.gup_spec_grammar.specs.Grammar.{ActionOnce, DeclaredLimits, want_of, Means}
 use Rattle.gup_read.specs.Reading.{with_made, op_of_actor}
 use Rattle.gup_read.specs.Steps.{MayHaveSlot, IsDeclarable}
 use Rattle.gup_read.proofs.Chains.{tried_ok, unused_Decides}
-use Rattle.gup_read.proofs.Judged.{Ends, built, later, Told}
+use Rattle.gup_read.proofs.Judged.{Ends, built, Told}
 use Rattle.gup_read.proofs.OpChoices.{op_chosen}
 use Rattle.gup_read.proofs.Acting.{behind_first}
 
@@ -24,7 +24,7 @@ actor_there : (o : Option Actor) (word : Word) → Contains (op_words_of o) word
 actor_there None word h = let lt = h.1 in absurd (omega arith)
 actor_there (Some actor) word h = (actor, refl)
 
-pub actor_within : (st : Outline) (a : ℕ) (word : Word) (fields : List Word) (op : Option Op) → op_of_actor st a (actor_at st.script a) word fields ≡ Ok op → a < length st.script.actors
+pub actor_within : (st : Outline) (a : ℕ) (word : Word) (fields : List Word) (op : Op) → op_of_actor st a (actor_at st.script a) word fields ≡ Ok op → a < length st.script.actors
 actor_within st a word fields op e =
     let t = tried_ok (op_chosen st a (actor_at st.script a) word fields) e in
     let there = actor_there (actor_at st.script a) word t.0 in
@@ -66,15 +66,15 @@ declarable_by st (mirrors mirror process page) op word fields same once few m =
     ] in
     subst (λ (o : Op). IsDeclarable o fields st) (sym m.6) (subst (λ (words : List Word). IsDeclarable fill words st) (sym behind) room)
 declarable_by st (looks mirror word) op first fields same once few m = subst (λ (o : Op). IsDeclarable o fields st) (sym m.4) tt
-declarable_by st _ op word fields same once few m = absurd m
+declarable_by st (transfers_parts outward handle slot first more) op word fields same once few m = subst (λ (o : Op). IsDeclarable o fields st) (sym m.6) tt
 
-abbrev read_op : Op → Result (Option Op) Reason
-read_op op = Ok (Some op)
+abbrev read_op : Op → Result Op Reason
+read_op op = Ok op
 
 same_op : (a b : Op) → read_op a ≡ read_op b → a ≡ b
 same_op a b e = cc
 
-declarable_told : (st : Outline) (a : ℕ) (word : Word) (fields : List Word) (op : Op) (result : Result (Option Op) Reason) → Told st a (word ∷ fields) result → result ≡ Ok (Some op) → IsDeclarable op fields st
+declarable_told : (st : Outline) (a : ℕ) (word : Word) (fields : List Word) (op : Op) (result : Result Op Reason) → Told st a (word ∷ fields) result → result ≡ Ok op → IsDeclarable op fields st
 declarable_told st a word fields op result (inr t) e = absurd (cc (t.0, e))
 declarable_told st a word fields op result (inl t) e =
     let shaped = tried_ok t.2 e in
@@ -85,12 +85,11 @@ declarable_told st a word fields op result (inl t) e =
     way once.0 limits.0 limits.1
   where
     way : ActionOnce st t.0 → DeclaredLimits st t.0 → Ends st t.0 result → IsDeclarable op fields st
-    way once few (built o given now means) =
+    way once few (built o given means) =
         let same : o ≡ op = same_op o op (sym given ∙ e) in
         declarable_by st t.0 op word fields t.1 once few (subst (Means st t.0) same means)
-    way once few (later given unbuilt) = absurd (cc (given, e))
 
-pub declarable : (st : Outline) (a : ℕ) (word : Word) (fields : List Word) (op : Op) → op_of_actor st a (actor_at st.script a) word fields ≡ Ok (Some op) → IsDeclarable op fields st
+pub declarable : (st : Outline) (a : ℕ) (word : Word) (fields : List Word) (op : Op) → op_of_actor st a (actor_at st.script a) word fields ≡ Ok op → IsDeclarable op fields st
 declarable st a word fields op e =
     declarable_told st a word fields op _ (tried_ok (op_chosen st a (actor_at st.script a) word fields) e).1 e
 

@@ -7,12 +7,13 @@ use Rattle.std.specs.List.{AllByRecursion}
 use Rattle.std.proofs.lemmas.Fmt.{decimal_nonempty}
 use Rattle.gup_base.specs.declared.entry.Rights.{Rights}
 use Rattle.gup_base.specs.declared.entry.Rights.TheVariants.{R, RW}
-use Rattle.gup_spec_grammar.specs.Spelling.{parts, IsName, turn_word, address}
+use Rattle.gup_base.specs.Parts.{Part}
+use Rattle.gup_spec_grammar.specs.Spelling.{parts, IsName, turn_word, address, segment}
 use Rattle.gup_spec_grammar.specs.Names.{NamedEntry, find, declared}
 use Rattle.gup_spec_grammar.specs.declared.named.Named.{Named}
 use Rattle.gup_spec_grammar.specs.Outline.{Outline, with_slot}
-use Rattle.gup_spec_grammar.specs.Said.{Word, Said, a_process, a_child, a_thread, a_device, a_mover, a_seed, some_turns, random_turns, said_words, Action, maps, unmaps, protects, discards, loads, stores, exits, pins, gets, puts, forks, unpins, takes, gives, transfers, mirrors, looks, action_words, rights_word, write_word, transfer_word, moves, zone_word}
-use Rattle.gup_spec_grammar.specs.Grammar.{IsUnused, IsMirrorOf, TurnsAnActor, Declares, ActionNames, with_declared, Does, IsNext, IsSaid, IsRightLine, Stage, before_head, before_frames, open_at}
+use Rattle.gup_spec_grammar.specs.Said.{Word, Said, a_process, a_child, a_thread, a_device, a_mover, a_seed, some_turns, random_turns, said_words, Action, maps, unmaps, protects, discards, loads, stores, exits, pins, gets, puts, forks, unpins, takes, gives, transfers, transfers_parts, mirrors, looks, action_words, rights_word, write_word, transfer_word, parts_word, moves, zone_word}
+use Rattle.gup_spec_grammar.specs.Grammar.{IsUnused, IsMirrorOf, AreSegments, TurnsAnActor, Declares, ActionNames, with_declared, Does, IsNext, IsSaid, IsRightLine, Stage, before_head, before_frames, open_at}
 use Rattle.gup_spec_grammar.specs.Fault.{AreSpaced}
 use Rattle.gup_read.proofs.Verdicts.{given}
 
@@ -64,7 +65,7 @@ stays_made st a _ h names = h
 
 stays_next : (st next : Outline) (words : List Word) → AreNamed st → IsNext st words next → AreNamed next
 stays_next st next words h (inl s) = stays_declared st next s.0 h s.2
-stays_next st next words h (inr o) = let d = o.6 in subst AreNamed (sym d.6.2) (stays_made st o.1 o.2 h d.2)
+stays_next st next words h (inr o) = let d = o.6 in subst AreNamed (sym d.5.2) (stays_made st o.1 o.2 h d.2)
 
 stays_said : (stage next : Stage) (words : List Word) → AreNamedAt stage → IsSaid stage words next → AreNamedAt next
 stays_said before_head next words h s = subst AreNamedAt (sym s.1) tt
@@ -123,6 +124,20 @@ some_transfer : (outward : Bool) → transfer_word outward ≡ [] → ⊥
 some_transfer true e = cc
 some_transfer false e = cc
 
+some_parts : (outward : Bool) → parts_word outward ≡ [] → ⊥
+some_parts true e = cc
+some_parts false e = cc
+
+some_segment : (index n : ℕ) → segment index n ≡ [] → ⊥
+some_segment index n e = way (decimal index) e where
+  way : (front : List ℕ) → front ++ codes ":" ++ decimal n ≡ [] → ⊥
+  way [] f = cc
+  way (c ∷ cs) f = cc
+
+some_segments : (words : List Word) (moved : List Part) → AreSegments words moved → AreSpaced words
+some_segments [] moved h = tt
+some_segments (word ∷ words) moved h = (λ e. some_segment h.0 h.1 (sym h.3.0 ∙ e), some_segments words h.2 h.4)
+
 some_address : (page w : ℕ) → address page w ≡ [] → ⊥
 some_address page w e = way (decimal page) e where
   way : (front : List ℕ) → front ++ codes "." ++ decimal w ≡ [] → ⊥
@@ -163,7 +178,10 @@ spaced_action st next a (mirrors mirror process page) h d =
     (λ e. cc, (some_mirror st a mirror h d.2.0, (found_name st process _ h d.2.1.1, (some_decimal page n.0 n.1.0 (omega (arith, n.1.1)), tt))))
 spaced_action st next a (looks mirror word) h d =
     let n = d.1 in (λ e. cc, (found_name st mirror _ h d.2.1, (some_decimal word n.0 n.1.0 (omega (arith, n.1.1)), tt)))
-spaced_action st next a _ h d = absurd d.6.1
+spaced_action st next a (transfers_parts outward handle slot first more) h d =
+    let n = d.1 in
+    let s = n.0 in
+    (some_parts outward, (found_name st handle _ h d.2.1, (some_decimal slot s.0 s.1.0 (omega (arith, s.1.1)), some_segments (first ∷ more) n.1.0 n.1.1.0)))
 
 spaced_next : (st next : Outline) (words : List Word) → AreNamed st → IsNext st words next → AreSpaced words
 spaced_next st next words h (inl s) = subst AreSpaced (sym s.1) (spaced_said st next s.0 h s.2)

@@ -5,6 +5,7 @@ use Rattle.gup_base.specs.declared.entry.Zone.TheVariants.{Movable, Normal}
 use Rattle.std.specs.Prelude.{ℕ, ◌+◌, ◌==◌, ◌&&◌, ◌||◌, not, nat_lt, nat_le, Bool, true, false, if◌then◌else◌, List, [], ◌∷◌, ◌++◌, length, replicate, codes, Option, Some, None, is_some, Result, Ok, Err}
 use Rattle.std.specs.List.{list_all}
 use Rattle.std.specs.Str.{bytes_eq}
+use Rattle.gup_base.specs.Parts.{Part, words_of}
 use Rattle.gup_base.specs.declared.entry.Rights.{Rights}
 use Rattle.gup_base.specs.declared.entry.Rights.TheVariants.{R, RW}
 use Rattle.gup_spec_grammar.specs.Spelling.{parts}
@@ -59,173 +60,173 @@ zone_in word =
     else if bytes_eq word (codes "movable") then Some Movable
     else None
 
--- What an action's words say: an operation, or none where its kind comes later. The words stand after the
--- operation's own.
+-- What an action's words say. They stand after the operation's own.
 
-unfoldable pub map_in : List (List ℕ) → Result (Option Op) Reason
+unfoldable pub map_in : List (List ℕ) → Result Op Reason
 map_in (first ∷ count ∷ allowed ∷ []) = do
   rights ← need reasons.Shape (rights_in allowed)
   range ← need reasons.Number (range_in 1024 first count)
-  Ok (Some (ops.Map range.0 range.1 rights))
+  Ok (ops.Map range.0 range.1 rights)
 map_in _ = Err reasons.Shape
 
-unfoldable pub unmap_in : List (List ℕ) → Result (Option Op) Reason
+unfoldable pub unmap_in : List (List ℕ) → Result Op Reason
 unmap_in (first ∷ count ∷ []) = do
   range ← need reasons.Number (range_in 1024 first count)
-  Ok (Some (ops.Unmap range.0 range.1))
+  Ok (ops.Unmap range.0 range.1)
 unmap_in _ = Err reasons.Shape
 
-unfoldable pub protect_in : List (List ℕ) → Result (Option Op) Reason
+unfoldable pub protect_in : List (List ℕ) → Result Op Reason
 protect_in (first ∷ count ∷ allowed ∷ []) = do
   rights ← need reasons.Shape (rights_in allowed)
   range ← need reasons.Number (range_in 1024 first count)
-  Ok (Some (ops.Protect range.0 range.1 rights))
+  Ok (ops.Protect range.0 range.1 rights)
 protect_in _ = Err reasons.Shape
 
-unfoldable pub discard_in : List (List ℕ) → Result (Option Op) Reason
+unfoldable pub discard_in : List (List ℕ) → Result Op Reason
 discard_in (first ∷ count ∷ []) = do
   range ← need reasons.Number (range_in 1024 first count)
-  Ok (Some (ops.Discard range.0 range.1))
+  Ok (ops.Discard range.0 range.1)
 discard_in _ = Err reasons.Shape
 
-unfoldable pub load_in : List (List ℕ) → Result (Option Op) Reason
+unfoldable pub load_in : List (List ℕ) → Result Op Reason
 load_in (address ∷ []) = do
   at ← need reasons.Number (address_in address)
-  Ok (Some (ops.Load at.0 at.1))
+  Ok (ops.Load at.0 at.1)
 load_in _ = Err reasons.Shape
 
-unfoldable pub store_in : List (List ℕ) → Result (Option Op) Reason
+unfoldable pub store_in : List (List ℕ) → Result Op Reason
 store_in (address ∷ value ∷ []) = do
   at ← need reasons.Number (address_in address)
   v ← need reasons.Number (number_in value)
-  Ok (Some (ops.Store at.0 at.1 v))
+  Ok (ops.Store at.0 at.1 v)
 store_in _ = Err reasons.Shape
 
-unfoldable pub exit_in : List (List ℕ) → Result (Option Op) Reason
-exit_in [] = Ok (Some ops.Exit)
+unfoldable pub exit_in : List (List ℕ) → Result Op Reason
+exit_in [] = Ok ops.Exit
 exit_in _ = Err reasons.Shape
 
 -- a pin
-unfoldable pub pinned_in : (fast long : Bool) → Outline → (handle first count way : List ℕ) → Result (Option Op) Reason
+unfoldable pub pinned_in : (fast long : Bool) → Outline → (handle first count way : List ℕ) → Result Op Reason
 pinned_in fast long st handle first count way = do
   write ← need reasons.Shape (way_in way)
   range ← need reasons.Number (range_in most_pinned first count)
   _ ← check reasons.Name (is_name handle)
   _ ← check reasons.Twice (is_unused st.names handle)
   h ← need reasons.Limit (next_handle st)
-  Ok (Some (ops.Pin h range.0 range.1 (want_of write long) fast))
+  Ok (ops.Pin h range.0 range.1 (want_of write long) fast)
 
-unfoldable pub pin_in : (fast : Bool) → Outline → List (List ℕ) → Result (Option Op) Reason
+unfoldable pub pin_in : (fast : Bool) → Outline → List (List ℕ) → Result Op Reason
 pin_in fast st (handle ∷ first ∷ count ∷ way ∷ []) = pinned_in fast false st handle first count way
 pin_in fast st (handle ∷ first ∷ count ∷ way ∷ long ∷ []) = do
   _ ← check reasons.Shape (bytes_eq long (codes "long"))
   pinned_in fast true st handle first count way
 pin_in fast st _ = Err reasons.Shape
 
-unfoldable pub get_in : Outline → List (List ℕ) → Result (Option Op) Reason
+unfoldable pub get_in : Outline → List (List ℕ) → Result Op Reason
 get_in st (handle ∷ page ∷ []) = do
   p ← need reasons.Number (page_in page)
   _ ← check reasons.Name (is_name handle)
   _ ← check reasons.Twice (is_unused st.names handle)
   h ← need reasons.Limit (next_handle st)
-  Ok (Some (ops.Get h p))
+  Ok (ops.Get h p)
 get_in st _ = Err reasons.Shape
 
-unfoldable pub put_in : Outline → List (List ℕ) → Result (Option Op) Reason
+unfoldable pub put_in : Outline → List (List ℕ) → Result Op Reason
 put_in st (handle ∷ []) = do
   h ← need reasons.Name (got_of (find st.names handle))
-  Ok (Some (ops.Put h))
+  Ok (ops.Put h)
 put_in st _ = Err reasons.Shape
 
-unfoldable pub fork_in : Outline → List (List ℕ) → Result (Option Op) Reason
+unfoldable pub fork_in : Outline → List (List ℕ) → Result Op Reason
 fork_in st (child ∷ []) = do
   p ← need reasons.Name (process_of (find st.names child))
   _ ← check reasons.Name (is_child st p)
   _ ← check reasons.Twice (not (is_forked st p))
-  Ok (Some (ops.Fork p))
+  Ok (ops.Fork p)
 fork_in st _ = Err reasons.Shape
 
-unfoldable pub unpin_in : Outline → List (List ℕ) → Result (Option Op) Reason
+unfoldable pub unpin_in : Outline → List (List ℕ) → Result Op Reason
 unpin_in st (handle ∷ []) = do
   h ← need reasons.Name (pin_of (find st.names handle))
-  Ok (Some (ops.Unpin h))
+  Ok (ops.Unpin h)
 unpin_in st _ = Err reasons.Shape
 
-unfoldable pub take_in : Outline → List (List ℕ) → Result (Option Op) Reason
+unfoldable pub take_in : Outline → List (List ℕ) → Result Op Reason
 take_in st (handle ∷ []) = do
   h ← need reasons.Name (pin_of (find st.names handle))
-  Ok (Some (ops.Take h))
+  Ok (ops.Take h)
 take_in st _ = Err reasons.Shape
 
-unfoldable pub give_in : Outline → List (List ℕ) → Result (Option Op) Reason
+unfoldable pub give_in : Outline → List (List ℕ) → Result Op Reason
 give_in st (handle ∷ to ∷ []) = do
   h ← need reasons.Name (pin_of (find st.names handle))
   b ← need reasons.Name (actor_of (find st.names to))
   _ ← check reasons.Name (is_receiver st b)
-  Ok (Some (ops.Give h b))
+  Ok (ops.Give h b)
 give_in st _ = Err reasons.Shape
 
 -- `out` and `in`
-unfoldable pub transfer_in : (outward : Bool) → Outline → List (List ℕ) → Result (Option Op) Reason
+unfoldable pub transfer_in : (outward : Bool) → Outline → List (List ℕ) → Result Op Reason
 transfer_in outward st (handle ∷ index ∷ slot ∷ count ∷ []) = do
   i ← need reasons.Number (index_in index)
   s ← need reasons.Number (index_in slot)
   n ← need reasons.Number (count_in 1 most_words count)
   h ← need reasons.Name (pin_of (find st.names handle))
-  Ok (Some (ops.Transfer h outward s ((i, n) ∷ [])))
+  Ok (ops.Transfer h outward s ((i, n) ∷ []))
 transfer_in outward st _ = Err reasons.Shape
 
--- how many words the parts of a transfer have together
-abbrev pub segments_in : List (List ℕ) → Option ℕ
-segments_in [] = Some 0
+-- the parts that these words spell
+abbrev pub segments_in : List (List ℕ) → Option (List Part)
+segments_in [] = Some []
 segments_in (word ∷ words) = more_segments (segment_in word) (segments_in words)
   where
-    more_segments : Option (ℕ × ℕ) → Option ℕ → Option ℕ
-    more_segments (Some part) (Some rest) = Some (part.1 + rest)
+    more_segments : Option Part → Option (List Part) → Option (List Part)
+    more_segments (Some part) (Some rest) = Some (part ∷ rest)
     more_segments _ _ = None
 
-abbrev pub at_most_64 : Option ℕ → Bool
-at_most_64 None = false
-at_most_64 (Some total) = nat_le total 64
+-- and behind these, if there is room for so many words in them
+abbrev pub behind_parts : List Part → (room : ℕ) → Option (List Part) → Option (List Part)
+behind_parts before room None = None
+behind_parts before room (Some more) = if nat_le (words_of more) room then Some (before ++ more) else None
 
 -- `outv` and `inv`
-unfoldable pub parts_in : Outline → List (List ℕ) → Result (Option Op) Reason
-parts_in st (handle ∷ slot ∷ first ∷ more) = do
+unfoldable pub parts_in : (outward : Bool) → Outline → List (List ℕ) → Result Op Reason
+parts_in outward st (handle ∷ slot ∷ first ∷ more) = do
   _ ← check reasons.Shape (nat_le (length more) 7)
-  _ ← need reasons.Number (index_in slot)
-  _ ← check reasons.Number (at_most_64 (segments_in (first ∷ more)))
-  _ ← need reasons.Name (pin_of (find st.names handle))
-  Ok None
-parts_in st _ = Err reasons.Shape
+  s ← need reasons.Number (index_in slot)
+  moved ← need reasons.Number (behind_parts [] most_words (segments_in (first ∷ more)))
+  h ← need reasons.Name (pin_of (find st.names handle))
+  Ok (ops.Transfer h outward s moved)
+parts_in outward st _ = Err reasons.Shape
 
-unfoldable pub mirror_in : Outline → (actor : ℕ) → List (List ℕ) → Result (Option Op) Reason
+unfoldable pub mirror_in : Outline → (actor : ℕ) → List (List ℕ) → Result Op Reason
 mirror_in st a (mirror ∷ process ∷ page ∷ []) = do
   g ← need reasons.Number (page_in page)
   _ ← check reasons.Name (may_mirror a mirror (find st.names mirror))
   p ← need reasons.Name (process_of (find st.names process))
   m ← need reasons.Limit (slot_of st (find st.names mirror))
-  Ok (Some (ops.Mirror m p g))
+  Ok (ops.Mirror m p g)
 mirror_in st a _ = Err reasons.Shape
 
-unfoldable pub look_in : Outline → (actor : ℕ) → List (List ℕ) → Result (Option Op) Reason
+unfoldable pub look_in : Outline → (actor : ℕ) → List (List ℕ) → Result Op Reason
 look_in st a (mirror ∷ word ∷ []) = do
   w ← need reasons.Number (word_no_in word)
   _ ← check reasons.Name (is_mirror_of a (find st.names mirror))
   m ← need reasons.Name (mirror_of (find st.names mirror))
-  Ok (Some (ops.Look m w))
+  Ok (ops.Look m w)
 look_in st a _ = Err reasons.Shape
 
-unfoldable pub move_in : Outline → List (List ℕ) → Result (Option Op) Reason
+unfoldable pub move_in : Outline → List (List ℕ) → Result Op Reason
 move_in st (process ∷ page ∷ zone ∷ []) = do
   z ← need reasons.Shape (zone_in zone)
   g ← need reasons.Number (page_in page)
   p ← need reasons.Name (process_of (find st.names process))
-  Ok (Some (ops.Move p g z))
+  Ok (ops.Move p g z)
 move_in st _ = Err reasons.Shape
 
 -- the operation with this word, by the kind of its actor
 
-unfoldable pub thread_op_in : Outline → (word : List ℕ) → List (List ℕ) → Result (Option Op) Reason
+unfoldable pub thread_op_in : Outline → (word : List ℕ) → List (List ℕ) → Result Op Reason
 thread_op_in st word fields =
     if bytes_eq word (codes "map") then map_in fields
     else if bytes_eq word (codes "unmap") then unmap_in fields
@@ -244,28 +245,28 @@ thread_op_in st word fields =
     else if bytes_eq word (codes "give") then give_in st fields
     else Err reasons.Word
 
-unfoldable pub device_op_in : Outline → (actor : ℕ) → (word : List ℕ) → List (List ℕ) → Result (Option Op) Reason
+unfoldable pub device_op_in : Outline → (actor : ℕ) → (word : List ℕ) → List (List ℕ) → Result Op Reason
 device_op_in st a word fields =
     if bytes_eq word (codes "unpin") then unpin_in st fields
     else if bytes_eq word (codes "take") then take_in st fields
     else if bytes_eq word (codes "give") then give_in st fields
     else if bytes_eq word (codes "out") then transfer_in true st fields
     else if bytes_eq word (codes "in") then transfer_in false st fields
-    else if bytes_eq word (codes "outv") then parts_in st fields
-    else if bytes_eq word (codes "inv") then parts_in st fields
+    else if bytes_eq word (codes "outv") then parts_in true st fields
+    else if bytes_eq word (codes "inv") then parts_in false st fields
     else if bytes_eq word (codes "mirror") then mirror_in st a fields
     else if bytes_eq word (codes "look") then look_in st a fields
     else Err reasons.Word
 
-unfoldable pub mover_op_in : Outline → (word : List ℕ) → List (List ℕ) → Result (Option Op) Reason
+unfoldable pub mover_op_in : Outline → (word : List ℕ) → List (List ℕ) → Result Op Reason
 mover_op_in st word fields = if bytes_eq word (codes "move") then move_in st fields else Err reasons.Word
 
-abbrev pub op_of_kind : Outline → (actor : ℕ) → Kind → (word : List ℕ) → List (List ℕ) → Result (Option Op) Reason
+abbrev pub op_of_kind : Outline → (actor : ℕ) → Kind → (word : List ℕ) → List (List ℕ) → Result Op Reason
 op_of_kind st a (Thread p) word fields = thread_op_in st word fields
 op_of_kind st a (Device slots) word fields = device_op_in st a word fields
 op_of_kind st a Mover word fields = mover_op_in st word fields
 
-abbrev pub op_of_actor : Outline → (actor : ℕ) → Option Actor → (word : List ℕ) → List (List ℕ) → Result (Option Op) Reason
+abbrev pub op_of_actor : Outline → (actor : ℕ) → Option Actor → (word : List ℕ) → List (List ℕ) → Result Op Reason
 op_of_actor st a None word fields = Err reasons.Word
 op_of_actor st a (Some actor) word fields = op_of_kind st a actor.kind word fields
 
@@ -281,9 +282,8 @@ with_made a op fields st = st
 unfoldable pub on_in : Outline → List (List ℕ) → Result Outline Reason
 on_in st (name ∷ word ∷ fields) = do
   a ← need reasons.Name (actor_of (find st.names name))
-  built ← op_of_actor st a (actor_at st.script a) word fields
+  op ← op_of_actor st a (actor_at st.script a) word fields
   _ ← check reasons.Limit (nat_lt st.operations most_operations)
-  op ← need reasons.Later built
   Ok (with_operation a op (with_made a op fields st))
 on_in st _ = Err reasons.Shape
 

@@ -66,7 +66,6 @@ fn on_line(reader: &mut Reader, fields: &[&str]) -> Result<(), Trouble>
     let actor = reader.actor(name).ok_or(Reason::Name)?;
     let op = actor_op(reader, actor, word, fields)?;
     check(reader.has_room(), Reason::Limit)?;
-    let op = op.ok_or(Reason::Later)?;
     declare_made(reader, actor, &op, fields)?;
     reader.add_operation(actor, op)?;
     Ok(())

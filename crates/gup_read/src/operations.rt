@@ -1,10 +1,10 @@
-//! The operation that the words after an actor's name spell: one that is built, or none where its kind comes later.
+//! The operation that the words after an actor's name spell.
 //! A fault is the first that the words have.
-ghost use Rattle.std.specs.Prelude.{◌≡◌, map, Some};
+ghost use Rattle.std.specs.Prelude.{[], length, ◌≤◌, ◌≡◌, map, Some};
 ghost use Rattle.std.specs.List.{list_all};
 ghost use Rattle.gup_read_words.specs.Text.{range_in};
 ghost use Rattle.gup_script.specs.Script.{Actor, actor_at};
-ghost use Rattle.gup_read.specs.Reading.{rights_in, zone_in, map_in, unmap_in, protect_in, discard_in, load_in, store_in, exit_in, way_in, pinned_in, pin_in, get_in, put_in, fork_in, unpin_in, take_in, give_in, transfer_in, segments_in, at_most_64, parts_in, mirror_in, look_in, move_in, thread_op_in, device_op_in, mover_op_in, op_of_kind, op_of_actor};
+ghost use Rattle.gup_read.specs.Reading.{rights_in, zone_in, map_in, unmap_in, protect_in, discard_in, load_in, store_in, exit_in, way_in, pinned_in, pin_in, get_in, put_in, fork_in, unpin_in, take_in, give_in, transfer_in, segments_in, behind_parts, parts_in, mirror_in, look_in, move_in, thread_op_in, device_op_in, mover_op_in, op_of_kind, op_of_actor};
 
 use crate::refusal::check;
 use gup_base::{ActorNo, PageNo, Parts, Rights, Want, Zone};
@@ -37,7 +37,7 @@ fn rights(word: &str) -> Option<Rights>
 }
 
 #[tactic(auto, unfolding(crate::specs::Reading::map_in))]
-fn map_op(fields: &[&str]) -> Result<Option<Op>, Reason>
+fn map_op(fields: &[&str]) -> Result<Op, Reason>
     ensures { result ≡ map_in (map (λ word. word.now) fields.now) }
 {
     let [first, count, allowed] = fields else {
@@ -45,22 +45,22 @@ fn map_op(fields: &[&str]) -> Result<Option<Op>, Reason>
     };
     let rights = rights(allowed).ok_or(Reason::Shape)?;
     let (page, n) = range(MAX_RANGE, first, count).ok_or(Reason::Number)?;
-    Ok(Some(Op::Map { page, n, rights }))
+    Ok(Op::Map { page, n, rights })
 }
 
 #[tactic(auto, unfolding(crate::specs::Reading::unmap_in))]
-fn unmap_op(fields: &[&str]) -> Result<Option<Op>, Reason>
+fn unmap_op(fields: &[&str]) -> Result<Op, Reason>
     ensures { result ≡ unmap_in (map (λ word. word.now) fields.now) }
 {
     let [first, count] = fields else {
         return Err(Reason::Shape);
     };
     let (page, n) = range(MAX_RANGE, first, count).ok_or(Reason::Number)?;
-    Ok(Some(Op::Unmap { page, n }))
+    Ok(Op::Unmap { page, n })
 }
 
 #[tactic(auto, unfolding(crate::specs::Reading::protect_in))]
-fn protect_op(fields: &[&str]) -> Result<Option<Op>, Reason>
+fn protect_op(fields: &[&str]) -> Result<Op, Reason>
     ensures { result ≡ protect_in (map (λ word. word.now) fields.now) }
 {
     let [first, count, allowed] = fields else {
@@ -68,33 +68,33 @@ fn protect_op(fields: &[&str]) -> Result<Option<Op>, Reason>
     };
     let rights = rights(allowed).ok_or(Reason::Shape)?;
     let (page, n) = range(MAX_RANGE, first, count).ok_or(Reason::Number)?;
-    Ok(Some(Op::Protect { page, n, rights }))
+    Ok(Op::Protect { page, n, rights })
 }
 
 #[tactic(auto, unfolding(crate::specs::Reading::discard_in))]
-fn discard_op(fields: &[&str]) -> Result<Option<Op>, Reason>
+fn discard_op(fields: &[&str]) -> Result<Op, Reason>
     ensures { result ≡ discard_in (map (λ word. word.now) fields.now) }
 {
     let [first, count] = fields else {
         return Err(Reason::Shape);
     };
     let (page, n) = range(MAX_RANGE, first, count).ok_or(Reason::Number)?;
-    Ok(Some(Op::Discard { page, n }))
+    Ok(Op::Discard { page, n })
 }
 
 #[tactic(auto, unfolding(crate::specs::Reading::load_in))]
-fn load_op(fields: &[&str]) -> Result<Option<Op>, Reason>
+fn load_op(fields: &[&str]) -> Result<Op, Reason>
     ensures { result ≡ load_in (map (λ word. word.now) fields.now) }
 {
     let [at] = fields else {
         return Err(Reason::Shape);
     };
     let (page, word) = address(at).ok_or(Reason::Number)?;
-    Ok(Some(Op::Load { page, word }))
+    Ok(Op::Load { page, word })
 }
 
 #[tactic(auto, unfolding(crate::specs::Reading::store_in))]
-fn store_op(fields: &[&str]) -> Result<Option<Op>, Reason>
+fn store_op(fields: &[&str]) -> Result<Op, Reason>
     ensures { result ≡ store_in (map (λ word. word.now) fields.now) }
 {
     let [at, number_word] = fields else {
@@ -102,15 +102,15 @@ fn store_op(fields: &[&str]) -> Result<Option<Op>, Reason>
     };
     let (page, word) = address(at).ok_or(Reason::Number)?;
     let value = number(number_word).ok_or(Reason::Number)?;
-    Ok(Some(Op::Store { page, word, value }))
+    Ok(Op::Store { page, word, value })
 }
 
 #[tactic(auto, unfolding(crate::specs::Reading::exit_in))]
-fn exit_op(fields: &[&str]) -> Result<Option<Op>, Reason>
+fn exit_op(fields: &[&str]) -> Result<Op, Reason>
     ensures { result ≡ exit_in (map (λ word. word.now) fields.now) }
 {
     match fields {
-        [] => Ok(Some(Op::Exit)),
+        [] => Ok(Op::Exit),
         _ => Err(Reason::Shape),
     }
 }
@@ -145,7 +145,7 @@ fn pinned_pages(
     first: &str,
     count: &str,
     way_word: &str,
-) -> Result<Option<Op>, Reason>
+) -> Result<Op, Reason>
     ensures { result ≡ pinned_in fast long reader.now handle.now first.now count.now way_word.now }
 {
     let write = way(way_word).ok_or(Reason::Shape)?;
@@ -153,18 +153,18 @@ fn pinned_pages(
     check(is_name(handle), Reason::Name)?;
     check(reader.is_unused(handle), Reason::Twice)?;
     let handle = reader.next_handle().ok_or(Reason::Limit)?;
-    Ok(Some(Op::Pin {
+    Ok(Op::Pin {
         handle,
         page,
         n,
         want: Want { write, long },
         fast,
-    }))
+    })
 }
 
 /// `pin` and `pinfast`.
 #[tactic(auto, unfolding(crate::specs::Reading::pin_in))]
-fn pin_op(reader: &Reader, fast: bool, fields: &[&str]) -> Result<Option<Op>, Reason>
+fn pin_op(reader: &Reader, fast: bool, fields: &[&str]) -> Result<Op, Reason>
     ensures { result ≡ pin_in fast reader.now (map (λ word. word.now) fields.now) }
 {
     match fields {
@@ -178,7 +178,7 @@ fn pin_op(reader: &Reader, fast: bool, fields: &[&str]) -> Result<Option<Op>, Re
 }
 
 #[tactic(auto, unfolding(crate::specs::Reading::get_in))]
-fn get_op(reader: &Reader, fields: &[&str]) -> Result<Option<Op>, Reason>
+fn get_op(reader: &Reader, fields: &[&str]) -> Result<Op, Reason>
     ensures { result ≡ get_in reader.now (map (λ word. word.now) fields.now) }
 {
     let [handle, page_word] = fields else {
@@ -188,22 +188,22 @@ fn get_op(reader: &Reader, fields: &[&str]) -> Result<Option<Op>, Reason>
     check(is_name(handle), Reason::Name)?;
     check(reader.is_unused(handle), Reason::Twice)?;
     let handle = reader.next_handle().ok_or(Reason::Limit)?;
-    Ok(Some(Op::Get { handle, page }))
+    Ok(Op::Get { handle, page })
 }
 
 #[tactic(auto, unfolding(crate::specs::Reading::put_in))]
-fn put_op(reader: &Reader, fields: &[&str]) -> Result<Option<Op>, Reason>
+fn put_op(reader: &Reader, fields: &[&str]) -> Result<Op, Reason>
     ensures { result ≡ put_in reader.now (map (λ word. word.now) fields.now) }
 {
     let [handle] = fields else {
         return Err(Reason::Shape);
     };
     let handle = reader.got(handle).ok_or(Reason::Name)?;
-    Ok(Some(Op::Put { handle }))
+    Ok(Op::Put { handle })
 }
 
 #[tactic(auto, unfolding(crate::specs::Reading::fork_in))]
-fn fork_op(reader: &Reader, fields: &[&str]) -> Result<Option<Op>, Reason>
+fn fork_op(reader: &Reader, fields: &[&str]) -> Result<Op, Reason>
     ensures { result ≡ fork_in reader.now (map (λ word. word.now) fields.now) }
 {
     let [child] = fields else {
@@ -212,33 +212,33 @@ fn fork_op(reader: &Reader, fields: &[&str]) -> Result<Option<Op>, Reason>
     let child = reader.process(child).ok_or(Reason::Name)?;
     check(reader.is_child(child), Reason::Name)?;
     check(!reader.is_forked(child), Reason::Twice)?;
-    Ok(Some(Op::Fork { child }))
+    Ok(Op::Fork { child })
 }
 
 #[tactic(auto, unfolding(crate::specs::Reading::unpin_in))]
-fn unpin_op(reader: &Reader, fields: &[&str]) -> Result<Option<Op>, Reason>
+fn unpin_op(reader: &Reader, fields: &[&str]) -> Result<Op, Reason>
     ensures { result ≡ unpin_in reader.now (map (λ word. word.now) fields.now) }
 {
     let [handle] = fields else {
         return Err(Reason::Shape);
     };
     let handle = reader.pin(handle).ok_or(Reason::Name)?;
-    Ok(Some(Op::Unpin { handle }))
+    Ok(Op::Unpin { handle })
 }
 
 #[tactic(auto, unfolding(crate::specs::Reading::take_in))]
-fn take_op(reader: &Reader, fields: &[&str]) -> Result<Option<Op>, Reason>
+fn take_op(reader: &Reader, fields: &[&str]) -> Result<Op, Reason>
     ensures { result ≡ take_in reader.now (map (λ word. word.now) fields.now) }
 {
     let [handle] = fields else {
         return Err(Reason::Shape);
     };
     let handle = reader.pin(handle).ok_or(Reason::Name)?;
-    Ok(Some(Op::Take { handle }))
+    Ok(Op::Take { handle })
 }
 
 #[tactic(auto, unfolding(crate::specs::Reading::give_in))]
-fn give_op(reader: &Reader, fields: &[&str]) -> Result<Option<Op>, Reason>
+fn give_op(reader: &Reader, fields: &[&str]) -> Result<Op, Reason>
     ensures { result ≡ give_in reader.now (map (λ word. word.now) fields.now) }
 {
     let [handle, to] = fields else {
@@ -247,12 +247,12 @@ fn give_op(reader: &Reader, fields: &[&str]) -> Result<Option<Op>, Reason>
     let handle = reader.pin(handle).ok_or(Reason::Name)?;
     let to = reader.actor(to).ok_or(Reason::Name)?;
     check(reader.is_receiver(to), Reason::Name)?;
-    Ok(Some(Op::Give { handle, to }))
+    Ok(Op::Give { handle, to })
 }
 
 /// `out` and `in`.
 #[tactic(auto, unfolding(crate::specs::Reading::transfer_in))]
-fn transfer_op(reader: &Reader, outward: bool, fields: &[&str]) -> Result<Option<Op>, Reason>
+fn transfer_op(reader: &Reader, outward: bool, fields: &[&str]) -> Result<Op, Reason>
     ensures { result ≡ transfer_in outward reader.now (map (λ word. word.now) fields.now) }
 {
     let [handle, index_word, slot, words] = fields else {
@@ -264,51 +264,59 @@ fn transfer_op(reader: &Reader, outward: bool, fields: &[&str]) -> Result<Option
     let handle = reader.pin(handle).ok_or(Reason::Name)?;
     let mut parts = Parts::new();
     parts.push(first, n as u8);
-    Ok(Some(Op::Transfer {
+    Ok(Op::Transfer {
         handle,
         outward,
         slot,
         parts,
-    }))
+    })
 }
 
-/// Whether the parts are spelled right and have at most 64 words together.
-fn are_parts(parts: &[&str]) -> bool
-    ensures { result ≡ at_most_64 (segments_in (map (λ part. part.now) parts.now)) }
+/// The parts of a transfer, if all are spelled right and they have at most 64 words together.
+fn read_parts(words: &[&str]) -> Option<Parts>
+    requires { length words.now ≤ 8 }
+    ensures { result ≡ behind_parts [] 64 (segments_in (map (λ word. word.now) words.now)) }
 {
+    let mut parts = Parts::new();
     let mut room = MAX_TRANSFER;
-    for part in parts {
-        let Some((_, n)) = segment(part) else {
-            return false;
+    for word in words {
+        let Some((index, n)) = segment(word) else {
+            return None;
         };
         if u64::from(n) > room {
-            return false;
+            return None;
         }
         room -= u64::from(n);
+        parts.push(index, n);
     }
-    true
+    Some(parts)
 }
 
 /// `outv` and `inv`.
 #[tactic(auto, unfolding(crate::specs::Reading::parts_in))]
-fn parts_op(reader: &Reader, fields: &[&str]) -> Result<Option<Op>, Reason>
-    ensures { result ≡ parts_in reader.now (map (λ word. word.now) fields.now) }
+fn parts_op(reader: &Reader, outward: bool, fields: &[&str]) -> Result<Op, Reason>
+    ensures { result ≡ parts_in outward reader.now (map (λ word. word.now) fields.now) }
 {
-    let [handle, slot, parts @ ..] = fields else {
+    let [handle, slot, words @ ..] = fields else {
         return Err(Reason::Shape);
     };
-    let [_, more @ ..] = parts else {
+    let [_, more @ ..] = words else {
         return Err(Reason::Shape);
     };
     check(more.len() <= MAX_MORE_PARTS, Reason::Shape)?;
-    index(slot).ok_or(Reason::Number)?;
-    check(are_parts(parts), Reason::Number)?;
-    reader.pin(handle).ok_or(Reason::Name)?;
-    Ok(None)
+    let slot = index(slot).ok_or(Reason::Number)?;
+    let parts = read_parts(words).ok_or(Reason::Number)?;
+    let handle = reader.pin(handle).ok_or(Reason::Name)?;
+    Ok(Op::Transfer {
+        handle,
+        outward,
+        slot,
+        parts,
+    })
 }
 
 #[tactic(auto, unfolding(crate::specs::Reading::mirror_in))]
-fn mirror_op(reader: &Reader, device: ActorNo, fields: &[&str]) -> Result<Option<Op>, Reason>
+fn mirror_op(reader: &Reader, device: ActorNo, fields: &[&str]) -> Result<Op, Reason>
     ensures { result ≡ mirror_in reader.now device (map (λ word. word.now) fields.now) }
 {
     let [mirror, process, page_word] = fields else {
@@ -318,11 +326,11 @@ fn mirror_op(reader: &Reader, device: ActorNo, fields: &[&str]) -> Result<Option
     check(reader.may_be_mirror(device, mirror), Reason::Name)?;
     let proc = reader.process(process).ok_or(Reason::Name)?;
     let mirror = reader.slot(mirror).ok_or(Reason::Limit)?;
-    Ok(Some(Op::Mirror { mirror, proc, page }))
+    Ok(Op::Mirror { mirror, proc, page })
 }
 
 #[tactic(auto, unfolding(crate::specs::Reading::look_in))]
-fn look_op(reader: &Reader, device: ActorNo, fields: &[&str]) -> Result<Option<Op>, Reason>
+fn look_op(reader: &Reader, device: ActorNo, fields: &[&str]) -> Result<Op, Reason>
     ensures { result ≡ look_in reader.now device (map (λ word. word.now) fields.now) }
 {
     let [mirror, word] = fields else {
@@ -331,7 +339,7 @@ fn look_op(reader: &Reader, device: ActorNo, fields: &[&str]) -> Result<Option<O
     let word = word_no(word).ok_or(Reason::Number)?;
     check(reader.is_mirror(device, mirror), Reason::Name)?;
     let mirror = reader.mirror(mirror).ok_or(Reason::Name)?;
-    Ok(Some(Op::Look { mirror, word }))
+    Ok(Op::Look { mirror, word })
 }
 
 fn zone(word: &str) -> Option<Zone>
@@ -345,7 +353,7 @@ fn zone(word: &str) -> Option<Zone>
 }
 
 #[tactic(auto, unfolding(crate::specs::Reading::move_in))]
-fn move_op(reader: &Reader, fields: &[&str]) -> Result<Option<Op>, Reason>
+fn move_op(reader: &Reader, fields: &[&str]) -> Result<Op, Reason>
     ensures { result ≡ move_in reader.now (map (λ word. word.now) fields.now) }
 {
     let [process, page_word, zone_word] = fields else {
@@ -354,11 +362,11 @@ fn move_op(reader: &Reader, fields: &[&str]) -> Result<Option<Op>, Reason>
     let zone = zone(zone_word).ok_or(Reason::Shape)?;
     let page = page(page_word).ok_or(Reason::Number)?;
     let proc = reader.process(process).ok_or(Reason::Name)?;
-    Ok(Some(Op::Move { proc, page, zone }))
+    Ok(Op::Move { proc, page, zone })
 }
 
 #[tactic(auto, unfolding(crate::specs::Reading::thread_op_in))]
-fn thread_op(reader: &Reader, word: &str, fields: &[&str]) -> Result<Option<Op>, Reason>
+fn thread_op(reader: &Reader, word: &str, fields: &[&str]) -> Result<Op, Reason>
     ensures { result ≡ thread_op_in reader.now word.now (map (λ field. field.now) fields.now) }
 {
     match word {
@@ -382,12 +390,7 @@ fn thread_op(reader: &Reader, word: &str, fields: &[&str]) -> Result<Option<Op>,
 }
 
 #[tactic(auto, unfolding(crate::specs::Reading::device_op_in))]
-fn device_op(
-    reader: &Reader,
-    device: ActorNo,
-    word: &str,
-    fields: &[&str],
-) -> Result<Option<Op>, Reason>
+fn device_op(reader: &Reader, device: ActorNo, word: &str, fields: &[&str]) -> Result<Op, Reason>
     ensures { result ≡ device_op_in reader.now device word.now (map (λ field. field.now) fields.now) }
 {
     match word {
@@ -396,7 +399,8 @@ fn device_op(
         "give" => give_op(reader, fields),
         "out" => transfer_op(reader, true, fields),
         "in" => transfer_op(reader, false, fields),
-        "outv" | "inv" => parts_op(reader, fields),
+        "outv" => parts_op(reader, true, fields),
+        "inv" => parts_op(reader, false, fields),
         "mirror" => mirror_op(reader, device, fields),
         "look" => look_op(reader, device, fields),
         _ => Err(Reason::Word),
@@ -404,7 +408,7 @@ fn device_op(
 }
 
 #[tactic(auto, unfolding(crate::specs::Reading::mover_op_in))]
-fn mover_op(reader: &Reader, word: &str, fields: &[&str]) -> Result<Option<Op>, Reason>
+fn mover_op(reader: &Reader, word: &str, fields: &[&str]) -> Result<Op, Reason>
     ensures { result ≡ mover_op_in reader.now word.now (map (λ field. field.now) fields.now) }
 {
     match word {
@@ -414,12 +418,7 @@ fn mover_op(reader: &Reader, word: &str, fields: &[&str]) -> Result<Option<Op>, 
 }
 
 /// The operation of this actor that has this word and these fields after it.
-pub fn actor_op(
-    reader: &Reader,
-    actor: ActorNo,
-    word: &str,
-    fields: &[&str],
-) -> Result<Option<Op>, Reason>
+pub fn actor_op(reader: &Reader, actor: ActorNo, word: &str, fields: &[&str]) -> Result<Op, Reason>
     ensures { result ≡ op_of_actor reader.now actor (actor_at reader.now.script actor) word.now (map (λ field. field.now) fields.now) }
 {
     match reader.kind(actor) {

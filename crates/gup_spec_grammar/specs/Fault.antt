@@ -3,14 +3,14 @@ use Rattle.std.specs.Prelude.{◌≡◌, ℕ, ◌+◌, ◌≤◌, ◌<◌, ◌�
 use Rattle.std.specs.List.{AllByRecursion}
 use Rattle.gup_spec_grammar.specs.Spelling.{IsPrintable, parts}
 use Rattle.gup_spec_grammar.specs.declared.fault.Reason.{Reason}
-use Rattle.gup_spec_grammar.specs.declared.fault.Reason.TheVariants.{Long, Byte, End, Space, Head, Frames, Word, Shape, Number, Name, Twice, Limit, Later, Short}
+use Rattle.gup_spec_grammar.specs.declared.fault.Reason.TheVariants.{Long, Byte, End, Space, Head, Frames, Word, Shape, Number, Name, Twice, Limit, Short}
 use Rattle.gup_spec_grammar.specs.declared.fault.ScriptFault.{ScriptFault}
 use Rattle.gup_spec_grammar.specs.declared.fault.ReadRefusal.{ReadRefusal}
 use Rattle.gup_spec_grammar.specs.declared.fault.ReadRefusal.TheVariants.{Fault, NoMemory}
 use Rattle.gup_script.specs.Script.{FrameCounts}
 use Rattle.gup_spec_grammar.specs.Said.{Said, said_words, declaring_words, Action, action_words, IsShaped, Word as Letters}
 use Rattle.gup_spec_grammar.specs.Outline.{Outline}
-use Rattle.gup_spec_grammar.specs.Grammar.{most_bytes, SaidNumbers, ActionNumbers, SaidNames, ActionNames, NamesActor, SaidOnce, ActionOnce, SaidLimits, ActionLimits, IsBuilt, IsOpOf, Stage, before_head, before_frames, open_at, head_words, AreFrames, SaysNothing, AreRightLines}
+use Rattle.gup_spec_grammar.specs.Grammar.{most_bytes, SaidNumbers, ActionNumbers, SaidNames, ActionNames, NamesActor, SaidOnce, ActionOnce, SaidLimits, ActionLimits, IsOpOf, Stage, before_head, before_frames, open_at, head_words, AreFrames, SaysNothing, AreRightLines}
 
 -- The reason is this one where the test fails, and else one of the tests after it.
 abbrev pub Unless : (this : Reason) → (test : Type 0) → (reason : Reason) → (behind : Type 0) → Type 0
@@ -40,8 +40,7 @@ ActionFault st a action reason =
     (Unless Number (ActionNumbers action) reason
     (Unless Name (ActionNames st a action) reason
     (Unless Twice (ActionOnce st action) reason
-    (Unless Limit (ActionLimits st action) reason
-    (Fails Later (IsBuilt action) reason)))))
+    (Fails Limit (ActionLimits st action) reason))))
 
 abbrev pub OpFault : Outline → (actor : ℕ) → List Letters → Reason → Type 0
 OpFault st a words reason =

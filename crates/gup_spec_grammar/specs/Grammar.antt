@@ -15,6 +15,7 @@ use Rattle.gup_spec_grammar.specs.Said.{Word, Said, a_process, a_child, a_thread
 use Rattle.gup_spec_grammar.specs.Outline.{Outline, empty_outline, with_process, with_actor, with_handle, with_reference, with_slot, with_operation, with_turns, with_seed, is_device, how_many, has_mover, is_child, is_forked, is_receiver, draws}
 use Rattle.gup_script.specs.Limits.{most_processes, most_threads, most_devices, most_handles, most_mirrors, most_pinned, most_words, most_operations, most_turns, most_frames, most_tables}
 use Rattle.gup_base.specs.Counts.{most_slots}
+use Rattle.gup_base.specs.Parts.{Part, words_of}
 
 -- 1. Numbers: those that a line has are spelled right and in range
 
@@ -29,11 +30,15 @@ SaidNumbers (some_turns first more) = AllByRecursion HasTimes (first ∷ more)
 SaidNumbers (random_turns start count) = (x n : ℕ) × IsNumber start x × IsNumber count n
 SaidNumbers said = Unit {0}
 
--- the parts of a transfer, each an index and how many words, which are so many in all
-abbrev pub AreSegments : List Word → ℕ → Type 0
-AreSegments [] total = total ≡ 0
-AreSegments (word ∷ words) total =
-    (index n rest : ℕ) × IsSegment word index n × AreSegments words rest × (total ≡ n + rest)
+-- the words spell these parts of a transfer, each by where it begins and how many words it has
+abbrev pub AreSegments : List Word → List Part → Type 0
+AreSegments [] moved = moved ≡ []
+AreSegments (word ∷ words) moved =
+    (index n : ℕ) × (rest : List Part) × IsSegment word index n × AreSegments words rest × (moved ≡ (index, n) ∷ rest)
+
+-- and these have no more words than a transfer may have
+abbrev pub SpellParts : List Word → List Part → Type 0
+SpellParts words moved = AreSegments words moved × (words_of moved ≤ most_words)
 
 abbrev pub ActionNumbers : Action → Type 0
 ActionNumbers (maps first count rights) = (page n : ℕ) × IsRange 1024 first count page n
@@ -47,7 +52,7 @@ ActionNumbers (gets handle page) = (p : ℕ) × IsPage page p
 ActionNumbers (transfers outward handle index slot count) =
     ((i : ℕ) × IsIndex index i) × ((s : ℕ) × IsIndex slot s) × ((n : ℕ) × IsCount 1 most_words count n)
 ActionNumbers (transfers_parts outward handle slot first more) =
-    ((s : ℕ) × IsIndex slot s) × ((total : ℕ) × AreSegments (first ∷ more) total × (total ≤ most_words))
+    ((s : ℕ) × IsIndex slot s) × ((moved : List Part) × SpellParts (first ∷ more) moved)
 ActionNumbers (mirrors mirror process page) = (p : ℕ) × IsPage page p
 ActionNumbers (looks mirror word) = (w : ℕ) × IsWordNo word w
 ActionNumbers (moves process page zone) = (p : ℕ) × IsPage page p
@@ -169,8 +174,7 @@ ActionLimits st action = DeclaredLimits st action × (st.operations < most_opera
 abbrev pub want_of : (write long : Bool) → Want
 want_of write long = record { write = write; long = long }
 
--- The operation that an action is. Those that none is said of come later: a line with one is right, and refused for
--- that alone. A pin makes the next handle, and a mirror whose slot isn't declared yet the next slot.
+-- The operation that an action is. A pin makes the next handle, and a mirror whose slot isn't declared yet the next slot.
 abbrev pub Means : Outline → Action → Op → Type 0
 Means st (maps first count rights) op = (page n : ℕ) × IsRange 1024 first count page n × (op ≡ ops.Map page n rights)
 Means st (unmaps first count) op = (page n : ℕ) × IsRange 1024 first count page n × (op ≡ ops.Unmap page n)
@@ -200,12 +204,9 @@ Means st (gives handle to) op = (h b : ℕ) × NamesPin st handle h × NamesActo
 Means st (transfers outward handle index slot count) op =
     (h i s n : ℕ) × NamesPin st handle h × IsIndex index i × IsIndex slot s × IsCount 1 most_words count n
     × (op ≡ ops.Transfer h outward s ((i, n) ∷ []))
-Means st action op = ⊥
-
--- The action is an operation that is built: all are but transfers of several parts.
-abbrev pub IsBuilt : Action → Type 0
-IsBuilt (transfers_parts outward handle slot first more) = ⊥
-IsBuilt action = Unit {0}
+Means st (transfers_parts outward handle slot first more) op =
+    (h s : ℕ) × (moved : List Part) × NamesPin st handle h × IsIndex slot s × SpellParts (first ∷ more) moved
+    × (op ≡ ops.Transfer h outward s moved)
 
 -- the outline with what this actor's action declares: the handle of a pin or of a reference, or the slot of a mirror
 abbrev pub with_declared : (actor : ℕ) → Action → Outline → Outline
@@ -231,11 +232,11 @@ abbrev pub Declares : Outline → Said → Outline → Type 0
 Declares st said next =
     SaidNumbers said × SaidNames st said × SaidOnce st said × SaidLimits st said × Becomes st said next
 
--- the action is one of this actor's kind, right, and built
+-- the action is one of this actor's kind, and right
 abbrev pub Does : Outline → (actor : ℕ) → Action → Outline → Type 0
 Does st a action next =
     IsShaped action × ActionNumbers action × ActionNames st a action × ActionOnce st action × ActionLimits st action
-    × IsBuilt action × ((op : Op) × Means st action op × (next ≡ with_operation a op (with_declared a action st)))
+    × ((op : Op) × Means st action op × (next ≡ with_operation a op (with_declared a action st)))
 
 -- is the operation with this word one of the actor's kind?
 abbrev pub IsOpOf : Outline → (actor : ℕ) → Word → Type 0

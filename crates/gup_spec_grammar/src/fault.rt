@@ -27,7 +27,7 @@ pub enum Reason {
     Twice,
     /// The line passes one of the counts that a script is held to.
     Limit,
-    /// The line is right, and its operation isn't built yet.
+    /// The line is right, and its operation isn't built yet. No line of version 1 is refused so.
     Later,
     /// The text ends before its `frames` line. The line is the one after the last.
     Short,

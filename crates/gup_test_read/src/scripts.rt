@@ -137,11 +137,15 @@ const LINES: [(&str, u32, Reason); 189] = [
     ("random 1 1000001\n", 8, Reason::Limit),
     ("turns t\nrandom 1 1000000\n", 9, Reason::Limit),
     ("random 1 18446744073709551615\n", 8, Reason::Limit),
-    ("on t pin h 0 1 read\non d outv h 0 0:1\n", 9, Reason::Later),
     (
-        "on t pin h 0 1 read\non d inv h 0 0:1 1:63\n",
-        9,
-        Reason::Later,
+        "on t pin h 0 1 read\non d outv h 0 0:1\nwrong\n",
+        10,
+        Reason::Word,
+    ),
+    (
+        "on t pin h 0 1 read\non d inv h 0 0:1 1:63\nwrong\n",
+        10,
+        Reason::Word,
     ),
     (
         "on t pin h 0 1 read\non t fork c\nwrong\n",
@@ -187,9 +191,9 @@ const LINES: [(&str, u32, Reason); 189] = [
     ("on d move p 0 movable\n", 8, Reason::Word),
     ("on m get g 0\n", 8, Reason::Word),
     (
-        "# x\n\n#\non t pin h 0 1 read\non d inv h 0 0:64\n",
-        12,
-        Reason::Later,
+        "# x\n\n#\non t pin h 0 1 read\non d inv h 0 0:64\nwrong\n",
+        13,
+        Reason::Word,
     ),
     ("on t mirror s p 0\n", 8, Reason::Word),
     ("on t look s\n", 8, Reason::Word),
@@ -287,10 +291,10 @@ const TEXTS: [(&str, u32, Reason); 24] = [
 const WHOLE: &str =
     "# all\ngup 1\n\nframes 512 512 8192\nrandom 3 0\nprocess p\nchild c\nthread t p\ndevice d 4096\nthread u c\nmover m\nseed 18446744073709551615\non t map 5 1024 r\non u discard 0 3\non t protect 34359738367 1 rw\non t fork c\non t store 5.511 7\non t exit\nturns t u*3 d m*2\nrandom 7 6\nturns d\n";
 
-/// A thread and a device that pin, give, take and unpin handles, and move words of one; a pin for long, a reference that is got
+/// A thread and a device that pin, give, take and unpin handles, and move words of one, also in several parts; a pin for long, a reference that is got
 /// and put back, and a move.
 const HELD: &str =
-    "gup 1\nframes 8 8 64\nprocess p\nthread t p\ndevice d 64\nmover m\non t pin h 5 16 write\non t pin g 34359738367 1 read\non t give h d\non d take h\non d out h 4294967295 0 64\non d in g 0 4294967295 1\non d give g t\non t take g\non t unpin h\non d unpin g\non t pin k 7 2 read long\non t get f 9\non t put f\non m move p 34359738367 movable\n";
+    "gup 1\nframes 8 8 64\nprocess p\nthread t p\ndevice d 64\nmover m\non t pin h 5 16 write\non t pin g 34359738367 1 read\non t give h d\non d take h\non d out h 4294967295 0 64\non d in g 0 4294967295 1\non d outv h 9 4294967295:2 0:61 512:1\non d inv g 4294967295 0:1 0:1 0:1 0:1 0:1 0:1 0:1 7:57\non d give g t\non t take g\non t unpin h\non d unpin g\non t pin k 7 2 read long\non t get f 9\non t put f\non m move p 34359738367 movable\n";
 
 /// Two devices that mirror pages of both processes, one through two slots, and fill a slot again with another page, and look
 /// through the slots.
@@ -518,7 +522,7 @@ fn whole_script(rt: HostRuntime) -> Result<(), Fail> {
 }
 
 const HELD_TOLD: &str =
-    "(8, 8, 64) 0\np true\nt Thread(ProcNo { number: 0 })\nPin { handle: HandleNo { number: 0 }, page: PageNo { number: 5 }, n: 16, want: Want { write: true, long: false }, fast: false }\nPin { handle: HandleNo { number: 1 }, page: PageNo { number: 34359738367 }, n: 1, want: Want { write: false, long: false }, fast: false }\nGive { handle: HandleNo { number: 0 }, to: ActorNo { number: 1 } }\nTake { handle: HandleNo { number: 1 } }\nUnpin { handle: HandleNo { number: 0 } }\nPin { handle: HandleNo { number: 2 }, page: PageNo { number: 7 }, n: 2, want: Want { write: false, long: true }, fast: false }\nGet { handle: HandleNo { number: 3 }, page: PageNo { number: 9 } }\nPut { handle: HandleNo { number: 3 } }\nd Device(64)\nTake { handle: HandleNo { number: 0 } }\nTransfer { handle: HandleNo { number: 0 }, outward: true, slot: 0, parts: Parts { parts: [(4294967295, 64)] } }\nTransfer { handle: HandleNo { number: 1 }, outward: false, slot: 4294967295, parts: Parts { parts: [(0, 1)] } }\nGive { handle: HandleNo { number: 1 }, to: ActorNo { number: 0 } }\nUnpin { handle: HandleNo { number: 1 } }\nm Mover\nMove { proc: ProcNo { number: 0 }, page: PageNo { number: 34359738367 }, zone: Movable }\nh\ng\nk\nf\n";
+    "(8, 8, 64) 0\np true\nt Thread(ProcNo { number: 0 })\nPin { handle: HandleNo { number: 0 }, page: PageNo { number: 5 }, n: 16, want: Want { write: true, long: false }, fast: false }\nPin { handle: HandleNo { number: 1 }, page: PageNo { number: 34359738367 }, n: 1, want: Want { write: false, long: false }, fast: false }\nGive { handle: HandleNo { number: 0 }, to: ActorNo { number: 1 } }\nTake { handle: HandleNo { number: 1 } }\nUnpin { handle: HandleNo { number: 0 } }\nPin { handle: HandleNo { number: 2 }, page: PageNo { number: 7 }, n: 2, want: Want { write: false, long: true }, fast: false }\nGet { handle: HandleNo { number: 3 }, page: PageNo { number: 9 } }\nPut { handle: HandleNo { number: 3 } }\nd Device(64)\nTake { handle: HandleNo { number: 0 } }\nTransfer { handle: HandleNo { number: 0 }, outward: true, slot: 0, parts: Parts { parts: [(4294967295, 64)] } }\nTransfer { handle: HandleNo { number: 1 }, outward: false, slot: 4294967295, parts: Parts { parts: [(0, 1)] } }\nTransfer { handle: HandleNo { number: 0 }, outward: true, slot: 9, parts: Parts { parts: [(4294967295, 2), (0, 61), (512, 1)] } }\nTransfer { handle: HandleNo { number: 1 }, outward: false, slot: 4294967295, parts: Parts { parts: [(0, 1), (0, 1), (0, 1), (0, 1), (0, 1), (0, 1), (0, 1), (7, 57)] } }\nGive { handle: HandleNo { number: 1 }, to: ActorNo { number: 0 } }\nUnpin { handle: HandleNo { number: 1 } }\nm Mover\nMove { proc: ProcNo { number: 0 }, page: PageNo { number: 34359738367 }, zone: Movable }\nh\ng\nk\nf\n";
 
 #[test]
 fn script_with_handles(rt: HostRuntime) -> Result<(), Fail> {
