@@ -17,9 +17,10 @@ const ROUNDS: u32 = 20;
 const HEAD: &str =
     "gup 1\nframes 256 256 2048\nprocess p\nchild c1\nchild c2\nthread t1 p\nthread t2 p\nthread t3 c1\nthread t4 c2\ndevice d1 64\ndevice d2 64\nmover m\non t1 map 0 64 rw\non t1 pin h1 0 4 write\non t1 give h1 d1\non t1 pin h2 4 4 read\non t1 give h2 d2\non d1 take h1\non d2 take h2\n";
 
-/// The text of the script that is made from the number: the same for the same number, and a script for each. Two processes that
-/// fork from the first, four threads that load, store, discard, unmap, pin and take references, two devices that move words of pins
-/// which last, and a mover; its turns are drawn from the number. The recipe is this project's own, and stands in docs/SCRIPT.md.
+/// The text that is made from the number, the same for the same number: two processes that fork from a first one, four threads that
+/// load, store, discard, unmap, pin and take references, two devices that move words of pins which last, and a mover; its turns are
+/// drawn from the number. That it is a script is tested of some numbers, and not said here. The recipe is this project's own, and
+/// stands in docs/SCRIPT.md. `NoMemory` where the text finds none.
 pub fn make_text(alloc: Global, n: u64) -> Result<Vec<u8>, NoMemory>
     ensures { IfOk result (λ text. text.items ≡ made_text n) }
 {
