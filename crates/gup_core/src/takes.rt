@@ -37,7 +37,7 @@ ghost use Rattle.gup_core.specs.Goes.{ShowsAll, StandsFree, all_view, IsReady, I
 ghost use Rattle.gup_op_waits.specs.Locks.{child_in};
 
 use crate::seats::Seat;
-use gup_base::{ActorNo, HandleNo, PageNo, Parts as Moved, ProcNo, Zone};
+use gup_base::{ActorNo, HandleNo, PageNo, Parts as Moved, ProcNo, Want, Zone};
 use gup_frames::Frames;
 use gup_op_base::{Head, JobPlace};
 use gup_op_devices::transfer;
@@ -117,15 +117,10 @@ pub fn take_at(
         fast,
     } = op
     {
-        let call = PinCall {
-            proc: proc.unwrap(),
-            handle: *handle,
-            page: *page,
-            n: *n,
-            want: *want,
-            fast: *fast,
-        };
-        return take_pin(parts, journal, head, call, far, job);
+        let proc = proc.unwrap();
+        return take_pin(
+            parts, journal, head, proc, *handle, *page, *n, *want, *fast, far, job,
+        );
     }
     take_single(parts, journal, head, proc, far, op)
 }
@@ -230,44 +225,58 @@ fn take_pin(
     parts: &mut Parts,
     journal: &mut Journal,
     head: &Head,
-    call: PinCall,
+    proc: ProcNo,
+    handle: HandleNo,
+    page: PageNo,
+    n: u8,
+    want: Want,
+    fast: bool,
     far: u16,
     job: &mut JobPlace,
 ) -> bool
-    requires there { call.proc < length parts.old.spaces.items }
+    requires there { proc < length parts.old.spaces.items }
     requires actor { head.now.actor < length parts.old.taken.items }
     requires tidy { EachSpace (IsTidy (frames_of parts.old.frames)) parts.old.spaces.items }
-    requires ready { (space : SpaceParts) (pages : ArrayVecValue ℕ) → slice_get parts.old.spaces.items call.proc ≡ Some space
+    requires ready { (space : SpaceParts) (pages : ArrayVecValue ℕ) → slice_get parts.old.spaces.items proc ≡ Some space
         → slice_get parts.old.taken.items head.now.actor ≡ Some pages
-        → IsReadyToPin (frames_of parts.old.frames) pages.items (call.page + length pages.items) call.n call.want
-        (call.fast && far == 0) (place_of job.old) (space_of space) }
+        → IsReadyToPin (frames_of parts.old.frames) pages.items (page + length pages.items) n want
+        (fast && far == 0) (place_of job.old) (space_of space) }
     requires few { (f : ℕ) → (frames_of parts.old.frames).count f < 2 ^ 40 }
-    requires unmade { handles_of parts.old.handles call.handle ≡ unmade }
+    requires unmade { handles_of parts.old.handles handle ≡ unmade }
     requires taken { (pages : ArrayVecValue ℕ) → slice_get parts.old.taken.items head.now.actor ≡ Some pages
-        → IsWithinPin call.n (length pages.items) (place_of job.old) }
-    requires some { 1 ≤ call.n }
-    requires most { call.n ≤ 16 }
-    requires range { call.page + call.n ≤ 2 ^ 35 }
+        → IsWithinPin n (length pages.items) (place_of job.old) }
+    requires some { 1 ≤ n }
+    requires most { n ≤ 16 }
+    requires range { page + n ≤ 2 ^ 35 }
     requires room { 3 ≤ journal.old.room }
     ensures spaces { length parts.new.spaces.items ≡ length parts.old.spaces.items }
     ensures taken { length parts.new.taken.items ≡ length parts.old.taken.items }
     ensures births { parts.new.births ≡ parts.old.births }
     ensures stores { parts.new.stores ≡ parts.old.stores }
-    ensures other_spaces { (q : ℕ) → (q ≡ call.proc → ⊥)
+    ensures other_spaces { (q : ℕ) → (q ≡ proc → ⊥)
         → slice_get parts.new.spaces.items q ≡ slice_get parts.old.spaces.items q }
     ensures others_taken { (b : ℕ) → (b ≡ head.now.actor → ⊥)
         → slice_get parts.new.taken.items b ≡ slice_get parts.old.taken.items b }
     ensures turn { TellsTurn head.now journal.old journal.new result
         (λ said. (old new : SpaceParts) (was now : ArrayVecValue ℕ)
-        → slice_get parts.old.spaces.items call.proc ≡ Some old → slice_get parts.new.spaces.items call.proc ≡ Some new
+        → slice_get parts.old.spaces.items proc ≡ Some old → slice_get parts.new.spaces.items proc ≡ Some new
         → slice_get parts.old.taken.items head.now.actor ≡ Some was
         → slice_get parts.new.taken.items head.now.actor ≡ Some now
-        → IsPinTurn head.now.actor call (length was.items) far
+        → IsPinTurn head.now.actor (record { proc = proc; handle = handle; page = page; n = n; want = want; fast = fast })
+        (length was.items) far
         (pinning_view parts.old.frames old parts.old.handles was.items job.old)
         (pinning_view parts.new.frames new parts.new.handles now.items job.new) (whats_of said)) }
 {
+    let call = PinCall {
+        proc,
+        handle,
+        page,
+        n,
+        want,
+        fast,
+    };
     let (over, next) = pin(
-        &mut parts.spaces[call.proc.get() as usize],
+        &mut parts.spaces[proc.get() as usize],
         &mut parts.frames,
         &mut parts.handles,
         &mut parts.taken[head.actor.get() as usize],
@@ -312,16 +321,9 @@ fn take_get(
         (pinning_view parts.new.frames new parts.new.handles taken Unbegun)
         (λ s. get_turn s head.now.actor proc handle page (s.entry proc page)) (whats_of said)) }
 {
-    get(
-        &mut parts.spaces[proc.get() as usize],
-        &mut parts.frames,
-        &mut parts.handles,
-        journal,
-        head,
-        proc,
-        handle,
-        page,
-    );
+    let space = &mut parts.spaces[proc.get() as usize];
+    let (frames, handles) = (&mut parts.frames, &mut parts.handles);
+    get(space, frames, handles, journal, head, proc, handle, page);
 }
 
 // Takes a turn of a transfer.

@@ -91,61 +91,61 @@ returns-in-Move-clause-turn c =
 pub take_pin-requires-clause-there : goal.take_pin-requires-clause-there
 take_pin-requires-clause-there c =
     let pin = c.in-Pin in
-    let ready = c.requires.ready c.unwrap-in-Pin.result (process_is c.args.proc c.unwrap-in-Pin.result c.unwrap-in-Pin.ensures) in
+    let ready = c.requires.ready c.unwrap-proc.result (process_is c.args.proc c.unwrap-proc.result c.unwrap-proc.ensures) in
     ready.there (subst HasProcess (sym pin.is) tt)
 
 pub take_pin-requires-clause-actor : goal.take_pin-requires-clause-actor
 take_pin-requires-clause-actor c =
     let pin = c.in-Pin in
-    let ready = c.requires.ready c.unwrap-in-Pin.result (process_is c.args.proc c.unwrap-in-Pin.result c.unwrap-in-Pin.ensures) in
+    let ready = c.requires.ready c.unwrap-proc.result (process_is c.args.proc c.unwrap-proc.result c.unwrap-proc.ensures) in
     ready.actor_taken
 
 pub take_pin-requires-clause-tidy : goal.take_pin-requires-clause-tidy
 take_pin-requires-clause-tidy c =
     let pin = c.in-Pin in
-    let ready = c.requires.ready c.unwrap-in-Pin.result (process_is c.args.proc c.unwrap-in-Pin.result c.unwrap-in-Pin.ensures) in
+    let ready = c.requires.ready c.unwrap-proc.result (process_is c.args.proc c.unwrap-proc.result c.unwrap-proc.ensures) in
     ready.tidy
 
 pub take_pin-requires-clause-ready : goal.take_pin-requires-clause-ready
 take_pin-requires-clause-ready c space pages here taken =
     let pin = c.in-Pin in
-    let ready = c.requires.ready c.unwrap-in-Pin.result (process_is c.args.proc c.unwrap-in-Pin.result c.unwrap-in-Pin.ensures) in
+    let ready = c.requires.ready c.unwrap-proc.result (process_is c.args.proc c.unwrap-proc.result c.unwrap-proc.ensures) in
     ready.pin space pages pin.handle pin.page pin.n pin.want pin.fast pin.is here taken
 
 pub take_pin-requires-clause-few : goal.take_pin-requires-clause-few
 take_pin-requires-clause-few c =
     let pin = c.in-Pin in
-    let ready = c.requires.ready c.unwrap-in-Pin.result (process_is c.args.proc c.unwrap-in-Pin.result c.unwrap-in-Pin.ensures) in
+    let ready = c.requires.ready c.unwrap-proc.result (process_is c.args.proc c.unwrap-proc.result c.unwrap-proc.ensures) in
     ready.few_counts
 
 pub take_pin-requires-clause-unmade : goal.take_pin-requires-clause-unmade
 take_pin-requires-clause-unmade c =
     let pin = c.in-Pin in
-    let ready = c.requires.ready c.unwrap-in-Pin.result (process_is c.args.proc c.unwrap-in-Pin.result c.unwrap-in-Pin.ensures) in
+    let ready = c.requires.ready c.unwrap-proc.result (process_is c.args.proc c.unwrap-proc.result c.unwrap-proc.ensures) in
     ready.yet pin.handle (ap made_by pin.is)
 
 pub take_pin-requires-clause-taken : goal.take_pin-requires-clause-taken
 take_pin-requires-clause-taken c pages here =
     let pin = c.in-Pin in
-    let ready = c.requires.ready c.unwrap-in-Pin.result (process_is c.args.proc c.unwrap-in-Pin.result c.unwrap-in-Pin.ensures) in
+    let ready = c.requires.ready c.unwrap-proc.result (process_is c.args.proc c.unwrap-proc.result c.unwrap-proc.ensures) in
     ready.taken pages pin.handle pin.page pin.n pin.want pin.fast here pin.is
 
 pub take_pin-requires-clause-some : goal.take_pin-requires-clause-some
 take_pin-requires-clause-some c =
     let pin = c.in-Pin in
-    let ready = c.requires.ready c.unwrap-in-Pin.result (process_is c.args.proc c.unwrap-in-Pin.result c.unwrap-in-Pin.ensures) in
+    let ready = c.requires.ready c.unwrap-proc.result (process_is c.args.proc c.unwrap-proc.result c.unwrap-proc.ensures) in
     (subst (λ (op : Op). IsOp op) pin.is ready.in_range).0
 
 pub take_pin-requires-clause-most : goal.take_pin-requires-clause-most
 take_pin-requires-clause-most c =
     let pin = c.in-Pin in
-    let ready = c.requires.ready c.unwrap-in-Pin.result (process_is c.args.proc c.unwrap-in-Pin.result c.unwrap-in-Pin.ensures) in
+    let ready = c.requires.ready c.unwrap-proc.result (process_is c.args.proc c.unwrap-proc.result c.unwrap-proc.ensures) in
     (subst (λ (op : Op). IsOp op) pin.is ready.in_range).1
 
 pub take_pin-requires-clause-range : goal.take_pin-requires-clause-range
 take_pin-requires-clause-range c =
     let pin = c.in-Pin in
-    let ready = c.requires.ready c.unwrap-in-Pin.result (process_is c.args.proc c.unwrap-in-Pin.result c.unwrap-in-Pin.ensures) in
+    let ready = c.requires.ready c.unwrap-proc.result (process_is c.args.proc c.unwrap-proc.result c.unwrap-proc.ensures) in
     (subst (λ (op : Op). IsOp op) pin.is ready.in_range).2
 
 pub returns-in-Pin-clause-turn : goal.returns-in-Pin-clause-turn
@@ -155,8 +155,8 @@ returns-in-Pin-clause-turn c =
     let t = c.take_pin in
     let told = t.ensures.turn in
     let pin = c.in-Pin in
-    let of = c.unwrap-in-Pin.result in
-    let ready = c.requires.ready c.unwrap-in-Pin.result (process_is c.args.proc c.unwrap-in-Pin.result c.unwrap-in-Pin.ensures) in
+    let of = c.unwrap-proc.result in
+    let ready = c.requires.ready c.unwrap-proc.result (process_is c.args.proc c.unwrap-proc.result c.unwrap-proc.ensures) in
     record {
       said = told.said;
       tells = told.tells;
@@ -165,7 +165,7 @@ returns-in-Pin-clause-turn c =
           of_born a.parts.now t.new.parts actor a.proc a.far a.op.now a.job.now t.new.job (whats_of told.said)
           c.requires.unfailed c.requires.birth
           (λ p slots of_p has.
-          subst (λ (q : ℕ). IsTurnAmong a.parts.now t.new.parts actor q slots a.far a.op.now a.job.now (whats_of told.said) t.new.job) (some_is a.proc of p c.unwrap-in-Pin.ensures of_p)
+          subst (λ (q : ℕ). IsTurnAmong a.parts.now t.new.parts actor q slots a.far a.op.now a.job.now (whats_of told.said) t.new.job) (some_is a.proc of p c.unwrap-proc.ensures of_p)
           (subst (λ (op : Op). IsTurnAmong a.parts.now t.new.parts actor of slots a.far op a.job.now (whats_of told.said) t.new.job) (sym pin.is)
           (pinned a.parts.now t.new.parts actor of slots a.far pin.handle pin.page pin.n pin.want pin.fast a.job.now t.new.job (whats_of told.said)
           (ready.there (subst HasProcess (sym pin.is) tt)) t.ensures.spaces ready.actor_taken t.ensures.taken t.ensures.births t.ensures.stores t.ensures.other_spaces t.ensures.others_taken told.is_so)));

@@ -24,7 +24,7 @@ returns-clause-turn c =
           (pinning_view a.parts.now.frames x a.parts.now.handles taken Unbegun) (pinning_view c.get-2.new.frames y c.get-2.new.handles taken Unbegun)
           (λ s. get_turn s actor a.proc a.handle a.page (s.entry a.proc a.page)) (whats_of told.said))
           _ _ old new
-          (sym (was_there spaces.items c.get.result a.proc c.index_mut.result.now c.index_mut.ensures.value c.get.ensures.value c.requires.there) ∙ was)
+          (sym (was_there spaces.items c.get.result a.proc c.index_mut-space.result.now c.index_mut-space.ensures.value c.get.ensures.value c.requires.there) ∙ was)
           (sym (now_there spaces.items c.get.result a.proc c.get-2.new.space c.get.ensures.value c.requires.there) ∙ is)
           (told.is_so taken);
     }

@@ -10,13 +10,13 @@ use Rattle.gup_core.proofs.takes.take_pin.Goals as goal
 
 pub pin-over-requires-clause-tidy : goal.pin-over-requires-clause-tidy
 pin-over-requires-clause-tidy c =
-    c.requires.tidy c.args.call.proc c.index_mut.result.now
-    (was_there c.args.parts.now.spaces.items c.get.result c.args.call.proc c.index_mut.result.now c.index_mut.ensures.value c.get.ensures.value c.requires.there)
+    c.requires.tidy c.args.proc c.index_mut.result.now
+    (was_there c.args.parts.now.spaces.items c.get.result c.args.proc c.index_mut.result.now c.index_mut.ensures.value c.get.ensures.value c.requires.there)
 
 pub pin-over-requires-clause-ready : goal.pin-over-requires-clause-ready
 pin-over-requires-clause-ready c =
     c.requires.ready c.index_mut.result.now c.index_mut-2.result.now
-    (was_there c.args.parts.now.spaces.items c.get.result c.args.call.proc c.index_mut.result.now c.index_mut.ensures.value c.get.ensures.value c.requires.there)
+    (was_there c.args.parts.now.spaces.items c.get.result c.args.proc c.index_mut.result.now c.index_mut.ensures.value c.get.ensures.value c.requires.there)
     (was_there c.args.parts.now.taken.items c.get-2.result c.args.head.now.actor c.index_mut-2.result.now c.index_mut-2.ensures.value c.get-2.ensures.value c.requires.actor)
 
 pub pin-over-requires-clause-within : goal.pin-over-requires-clause-within
@@ -54,10 +54,10 @@ returns-clause-turn c =
       ends = told.ends;
       is_so = λ old new was now was_space is_space was_taken is_taken.
           four
-          (λ (x y : SpaceParts) (before after : ArrayVec ℕ). IsPinTurn a.parts.now behind x y before after actor a.call a.far a.job.now c.pin-over.result.1 (whats_of told.said))
+          (λ (x y : SpaceParts) (before after : ArrayVec ℕ). IsPinTurn a.parts.now behind x y before after actor (record { proc = a.proc; handle = a.handle; page = a.page; n = a.n; want = a.want; fast = a.fast }) a.far a.job.now c.pin-over.result.1 (whats_of told.said))
           _ _ _ _ old new was now
-          (sym (was_there spaces.items c.get.result a.call.proc c.index_mut.result.now c.index_mut.ensures.value c.get.ensures.value c.requires.there) ∙ was_space)
-          (sym (now_there spaces.items c.get.result a.call.proc c.pin-over.new.space c.get.ensures.value c.requires.there) ∙ is_space)
+          (sym (was_there spaces.items c.get.result a.proc c.index_mut.result.now c.index_mut.ensures.value c.get.ensures.value c.requires.there) ∙ was_space)
+          (sym (now_there spaces.items c.get.result a.proc c.pin-over.new.space c.get.ensures.value c.requires.there) ∙ is_space)
           (sym (was_there taken.items c.get-2.result actor c.index_mut-2.result.now c.index_mut-2.ensures.value c.get-2.ensures.value c.requires.actor) ∙ was_taken)
           (sym (now_there taken.items c.get-2.result actor c.pin-over.new.taken c.get-2.ensures.value c.requires.actor) ∙ is_taken)
           told.is_so;
