@@ -139,7 +139,7 @@ enum Op {
     Get { handle: usize, page: u64 },
     Put { handle: usize },
     Move { process: usize, page: u64, zone: Zone },
-    Transfer { handle: usize, outward: bool, slot: u64, parts: Parts },
+    Transfer { handle: usize, outward: bool, slot: u64, parts: Parts, n: u64 },
     Mirror { slot: usize, process: usize, page: u64 },
     Look { slot: usize, word: usize },
     Fork { child: usize },
@@ -413,7 +413,7 @@ impl<'s> Machine<'s> {
                 let (index, slot, n) = (number(words.next()), number(words.next()), number(words.next()));
                 let mut parts = [(0, 0); 8];
                 parts[0] = (index, n);
-                Op::Transfer { handle, outward: way == "out", slot, parts }
+                Op::Transfer { handle, outward: way == "out", slot, parts, n }
             }
             way @ ("outv" | "inv") => {
                 let handle = handle(names, words.next().unwrap());
@@ -423,7 +423,7 @@ impl<'s> Machine<'s> {
                     let (index, n) = word.split_once(':').unwrap();
                     *part = (index.parse().unwrap(), n.parse().unwrap());
                 }
-                Op::Transfer { handle, outward: way == "outv", slot, parts }
+                Op::Transfer { handle, outward: way == "outv", slot, parts, n: parts.iter().map(|part| part.1).sum() }
             }
             "fork" => Op::Fork { child: process(names, words.next().unwrap()) },
             "exit" => Op::Exit,
@@ -516,7 +516,7 @@ impl<'s> Machine<'s> {
             Op::Get { handle, page } => self.get(a, handle, page),
             Op::Put { handle } => self.put(a, handle),
             Op::Move { process, page, zone } => self.migrate(a, process, page, zone),
-            Op::Transfer { handle, outward, slot, parts } => self.transfer(a, handle, outward, slot, &parts),
+            Op::Transfer { handle, outward, slot, parts, n } => self.transfer(a, handle, outward, slot, &parts, n),
             Op::Mirror { slot, process, page } => self.mirror(a, slot, process, page),
             Op::Look { slot, word } => self.look(a, slot, word),
             Op::Fork { child } => self.fork(a, child),
@@ -861,7 +861,7 @@ impl<'s> Machine<'s> {
         self.answer(a, &text);
     }
 
-    fn transfer(&mut self, a: usize, handle: usize, outward: bool, slot: u64, parts: &Parts) {
+    fn transfer(&mut self, a: usize, handle: usize, outward: bool, slot: u64, parts: &Parts, n: u64) {
         let (frames, may_write) = match &self.handles[handle] {
             Handle::Held(by, frames, write) if *by == a => (frames, *write),
             _ => return self.answer(a, "notheld"),
@@ -870,9 +870,8 @@ impl<'s> Machine<'s> {
         if !outward && !may_write {
             return self.answer(a, "forbidden");
         }
-        let n: u64 = parts.iter().map(|part| part.1).sum();
-        let within = parts.iter().all(|(index, n)| *n == 0 || index + n <= (frames.len() * WORDS) as u64);
-        if !within || slot + n > actor.store.len() as u64 {
+        let within = || parts.iter().all(|(index, n)| *n == 0 || index + n <= (frames.len() * WORDS) as u64);
+        if actor.far == 0 && (!within() || slot + n > actor.store.len() as u64) {
             return self.answer(a, "range");
         }
         let word = word_at(parts, actor.far) as usize;
