@@ -1,6 +1,6 @@
 use gup_base::{ActorNo, HandleNo, MirrorNo, PageNo, Parts, ProcNo, Rights, Want, WordNo, Zone};
 
-/// An operation of an actor. Transfers in several parts are not built yet: no script has them.
+/// An operation of an actor.
 #[derive(Clone, Debug, Drop)]
 pub enum Op {
     /// `map p n r` or `map p n rw`: n pages from p on get these rights (`mmap`).
