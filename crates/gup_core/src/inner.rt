@@ -80,6 +80,12 @@ impl Inner {
         &self.script
     }
 
+    pub(crate) fn turns(&self) -> u32
+        ensures { result ≡ self.now.turns }
+    {
+        self.turns
+    }
+
     /// Takes the actor's turn if it can go, and puts its notes on. Where it waits or has finished, nothing changes.
     #[inline(always)]
     pub(crate) fn go(&mut self, actor: ActorNo, journal: &mut Journal) -> Advanced

@@ -1,5 +1,4 @@
-//! The machine for many processes, threads and devices: it takes the turns of a script's core run, on frames, processes,
-//! pins, stores and mirror slots that take no more memory than they had at the start.
+//! The machine: it takes the turns of a script's core run, with no more memory than it had at the start.
 #![tactic(auto)]
 
 mod copies;

@@ -14,8 +14,7 @@ use gup_script::Script;
 use std::alloc::Global;
 use std::marker::Model;
 
-/// The machine of a script: frames, processes, pins and stores, and where each actor stands. It is between two turns of
-/// the core run.
+/// The machine of a script between two turns: frames, processes, pins, stores and mirror slots, and where each actor stands.
 #[derive(Drop)]
 pub struct Machine {
     inner: Inner,
@@ -116,6 +115,13 @@ impl Machine {
         ensures { (r : RunState) → Shows self.now r → result ≡ has_finished self.now.script actor (r.places actor) }
     {
         self.inner.finished(actor)
+    }
+
+    /// How many turns are over. The count stays at the last value of a `u32`; the turns of a script's run are fewer.
+    pub fn turns(&self) -> u32
+        ensures { result ≡ self.now.turns }
+    {
+        self.inner.turns()
     }
 
     /// How many frames of the zone are free.

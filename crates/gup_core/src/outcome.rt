@@ -15,7 +15,6 @@ use gup_script::Op;
 /// Who may be able to go after a turn, and could not before it. All others who waited or had finished still do.
 #[derive(Clone, Copy, Debug)]
 pub enum Woken {
-    /// Nobody.
     Nobody,
     /// This actor alone, to whom a pin was given.
     One(ActorNo),

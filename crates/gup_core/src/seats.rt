@@ -31,7 +31,6 @@ pub fn first(alloc: Global, actors: u8) -> Result<Vec<Seat>, NoMemory>
     Ok(seats)
 }
 
-/// Where the actor stands.
 pub fn seat_of(seats: &Vec<Seat>, actor: ActorNo) -> Seat
     requires { actor < length seats.now.items }
     ensures { slice_get seats.now.items actor ≡ Some result }

@@ -29,19 +29,10 @@ impl Turn {
         requires few { length notes.now ≤ 3 }
         ensures { result ≡ notes.now }
     {
-        match notes {
-            [first] => Turn {
-                notes: [*first; 3],
-                len: 1,
-            },
-            [first, second] => Turn {
-                notes: [*first, *second, *second],
-                len: 2,
-            },
-            _ => Turn {
-                notes: [notes[0], notes[1], notes[2]],
-                len: 3,
-            },
+        let last = notes.len() - 1;
+        Turn {
+            notes: [notes[0], notes[last.min(1)], notes[last]],
+            len: notes.len(),
         }
     }
 

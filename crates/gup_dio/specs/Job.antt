@@ -9,6 +9,9 @@ pub record JobValue : Type 0 where
   pub first_slot : ℕ
   pub parts : List Part
 
+abbrev pub job_of : (first_slot : ℕ) → List Part → JobValue
+job_of first_slot parts = record { first_slot = first_slot; parts = parts }
+
 -- its words are words of so many pages, and its slots are of a store of so many
 abbrev pub fits_in : (pages slots : ℕ) → JobValue → Bool
 fits_in pages slots job = has_words pages job.parts && has_slots slots job.first_slot job.parts

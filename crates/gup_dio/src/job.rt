@@ -1,8 +1,8 @@
 //! Jobs of direct I/O, and the places of their words.
-ghost use Rattle.std.specs.Prelude.{◌≡◌, ℕ, ◌+◌, ◌*◌, ◌/◌, ◌%◌, ◌≤◌, ◌<◌, true, nat_le};
+ghost use Rattle.std.specs.Prelude.{◌≡◌, ℕ, ◌+◌, ◌/◌, ◌%◌, ◌≤◌, ◌<◌, true, nat_le};
 ghost use Rattle.gup_base.specs.Parts.{words_of, word_at};
 ghost use Rattle.gup_plain.specs.Denial.{has_words, has_slots};
-ghost use Rattle.gup_dio.specs.Job.{JobValue, fits_in, are_within};
+ghost use Rattle.gup_dio.specs.Job.{job_of, fits_in, are_within};
 
 use gup_base::{Parts, WordNo};
 use std::marker::Model;
@@ -12,7 +12,7 @@ const WORDS: u32 = 512;
 
 /// A transfer between a pin and the store of a device, as `preadv` and `pwritev` on a file that is open with `O_DIRECT` make one: the
 /// words of its parts, one part after another, and as many slots of the store, from a first one on.
-#[derive(Debug)]
+#[derive(Debug, Drop)]
 pub struct Job<'a> {
     first_slot: u32,
     parts: &'a [(u32, u8)],
@@ -57,7 +57,7 @@ impl<'a> Job<'a> {
     /// The job of these parts, with slots from this one on. That the pin and the store have them is not said.
     pub fn new(first_slot: u32, parts: &'a Parts) -> Job<'a>
         requires { words_of parts.now ≤ 64 }
-        ensures { result ≡ record { first_slot = first_slot; parts = parts.now } }
+        ensures { result ≡ job_of first_slot parts.now }
     {
         Job {
             first_slot,
@@ -129,7 +129,7 @@ impl<'a> Job<'a> {
             return part.0 + u32::from(k);
         }
         let mut left = k;
-        for part in self.parts {
+        for part in self.parts.iter() {
             let words = u16::from(part.1);
             if left < words {
                 return part.0 + u32::from(left);

@@ -30,7 +30,9 @@ use Rattle.gup_op_base.proofs.Leading.{leads_alike, notes_alike}
 use Rattle.gup_op_pins.specs.Pins.{frames_in}
 use Rattle.gup_handles.specs.Shows.{IsShown, ShowsHandles}
 use Rattle.gup_op_pins.specs.Held.{ShowsStore, HeldView, ShowsHeld, slots_in}
-use Rattle.gup_op_devices.specs.Transfers.{IsWhole, HasMoved, IsMoved, IsFound, is_pin_of, writes_in, fits_in, refusal_in, words_in}
+use Rattle.gup_dio.specs.Job.{job_of, fits_in}
+use Rattle.gup_dio.proofs.Words.{slot_fits, word_fits}
+use Rattle.gup_op_devices.specs.Transfers.{IsWhole, HasMoved, IsMoved, IsFound, is_pin_of, writes_in, refusal_in, words_in}
 
 abbrev pub view : FramesValue → HandlesValue → Option (List ℕ) → HeldView
 view F H W = record { frames = F; pins = H; store = W }
@@ -53,10 +55,10 @@ denial_same (held by frames write) handle pinned a outward slots slot parts refe
     many : is_held_by handle a ≡ true → length objects ≡ length frames
     many is = sym (ap (λ h. length (plain.objects_of h)) pin.0.1) ∙ sym (whole is) ∙ ap length pin.1
 
-    go : (mine : Bool) → (by == a) ≡ mine → transfer_denial_by mine outward write (fits_in (length objects) slots slot parts) ≡ transfer_denial_by mine outward write (fits_in (length frames) slots slot parts)
+    go : (mine : Bool) → (by == a) ≡ mine → transfer_denial_by mine outward write (fits_in (length objects) slots (job_of slot parts)) ≡ transfer_denial_by mine outward write (fits_in (length frames) slots (job_of slot parts))
     go false is = refl
     go true is =
-        ap (λ k. transfer_denial_by true outward write (fits_in k slots slot parts))
+        ap (λ k. transfer_denial_by true outward write (fits_in k slots (job_of slot parts)))
         (many (ap (λ h. is_held_by h a) pin.0.1 ∙ is))
 
 -- the turn by what refuses it
@@ -159,101 +161,69 @@ unrefused_fits true false true true unrefused = refl
 unrefused_fits true false true false refused = absurd (cc)
 unrefused_fits true false false fits refused = absurd (cc)
 
-both_fit : (words slots : Bool) → (words && slots) ≡ true → (words ≡ true) × (slots ≡ true)
-both_fit true true fit = (refl, refl)
-both_fit true false fit = absurd (cc)
-both_fit false slots fit = absurd (cc)
-
 -- what isn't refused fits
-parts_fit : (v : HandleValue) (a : ℕ) (outward : Bool) (slots slot : ℕ) (parts : List Part) → refusal_in v a outward slots slot parts ≡ None
-    → (has_words (length (frames_in v)) parts ≡ true) × (has_slots slots slot parts ≡ true)
-parts_fit v a outward slots slot parts unrefused =
-    both_fit (has_words (length (frames_in v)) parts) (has_slots slots slot parts)
-    (unrefused_fits (is_pin_of v a) outward (writes_in v) (fits_in (length (frames_in v)) slots slot parts) unrefused)
-
-slots_fit : (slots slot n : ℕ) → nat_le (slot + n) slots ≡ true → slot + n ≤ slots
-slots_fit slots slot n fits = grind (arith, nat_tests)
+fits_unrefused : (v : HandleValue) (a : ℕ) (outward : Bool) (slots slot : ℕ) (parts : List Part) → refusal_in v a outward slots slot parts ≡ None → fits_in (length (frames_in v)) slots (job_of slot parts) ≡ true
+fits_unrefused v a outward slots slot parts unrefused =
+    unrefused_fits (is_pin_of v a) outward (writes_in v) (fits_in (length (frames_in v)) slots (job_of slot parts)) unrefused
 
 pub slot_within : (v : HandleValue) (a : ℕ) (outward : Bool) (slots slot : ℕ) (parts : List Part) (far : ℕ) → refusal_in v a outward slots slot parts ≡ None → far < words_of parts → slot + far < slots
 slot_within v a outward slots slot parts far unrefused within =
-    let fits : slot + words_of parts ≤ slots = slots_fit slots slot (words_of parts) (parts_fit v a outward slots slot parts unrefused).1 in
-    omega arith
-
-pub is_so : (test : Bool) → not test ≡ false → test ≡ true
-is_so true so = refl
-is_so false so = absurd (cc)
-
--- a word of the first part, or one of the others
-at_part : (pages : ℕ) (part : Part) (parts : List Part) (far : ℕ) → part.0 + part.1 ≤ 512 * pages → (part.1 ≤ far → word_at parts (far - part.1) < 512 * pages) → word_at (part ∷ parts) far < 512 * pages
-at_part pages part parts far here rest = go (nat_lt far part.1) refl
-  where
-    go : (is_here : Bool) → nat_lt far part.1 ≡ is_here → cond is_here (part.0 + far) (word_at parts (far - part.1)) < 512 * pages
-    go true is = let less : far < part.1 = grind (arith, nat_tests) in omega arith
-    go false is = let behind : part.1 ≤ far = grind (arith, nat_tests) in rest behind
-
--- a word of parts that fit is one of the pages
-pub word_fits : (pages : ℕ) (parts : List Part) (far : ℕ) → has_words pages parts ≡ true → far < words_of parts → word_at parts far < 512 * pages
-word_fits pages [] far fit within = absurd (omega arith)
-word_fits pages (part ∷ parts) far fit within =
-    let both : (nat_le (part.0 + part.1) (512 * pages) ≡ true) × (has_words pages parts ≡ true) = both_fit (nat_le (part.0 + part.1) (512 * pages)) (has_words pages parts) fit in
-    let here : part.0 + part.1 ≤ 512 * pages = slots_fit (512 * pages) part.0 part.1 both.0 in
-    let rest : part.1 ≤ far → far - part.1 < words_of parts = λ behind. omega (arith, sum_by-cons (λ (x : Part). x.1) part parts) in
-    at_part pages part parts far here (λ behind. word_fits pages parts (far - part.1) both.1 (rest behind))
+    slot_fits (length (frames_in v)) slots (job_of slot parts) far (fits_unrefused v a outward slots slot parts unrefused) within
 
 -- ---- the word that was found moves
 
 -- its event by the parts
-event_is : (a h index place slot far value : ℕ) (parts : List Part) (outward : Bool) → index ≡ word_at parts far → place ≡ slot + far
-    → moves_word a h outward index place value ≡ moves_word a h outward (word_at parts far) (slot + far) value
-event_is a h index place slot far value parts outward at there =
-    ap (λ i. moves_word a h outward i place value) at ∙ ap (λ j. moves_word a h outward (word_at parts far) j value) there
+event_is : (a h first_slot far index slot f value : ℕ) (v : HandleValue) (parts : List Part) (outward last : Bool) → IsFound v first_slot parts far index slot f last
+    → moves_word a h outward index slot value ≡ moves_word a h outward (word_at parts far) (first_slot + far) value
+event_is a h first_slot far index slot f value v parts outward last found =
+    ap (λ i. moves_word a h outward i slot value) found.word ∙ ap (λ j. moves_word a h outward (word_at parts far) j value) found.goes
 
 -- and what it says
-said_is : (a h f index place slot far value : ℕ) (v : HandleValue) (parts : List Part) (outward last : Bool) → IsFound v parts far index f last → place ≡ slot + far
-    → word_said (moves_word a h outward index place value) last ≡ word_said (moves_word a h outward (word_at parts far) (slot + far) value) (far + 1 == words_of parts)
-said_is a h f index place slot far value v parts outward last found there =
-    ap (λ (e : PlainEvent). word_said e last) (event_is a h index place slot far value parts outward found.word there)
-    ∙ ap (λ (b : Bool). word_said (moves_word a h outward (word_at parts far) (slot + far) value) b) found.ends
+said_is : (a h first_slot far index slot f value : ℕ) (v : HandleValue) (parts : List Part) (outward last : Bool) → IsFound v first_slot parts far index slot f last
+    → word_said (moves_word a h outward index slot value) last ≡ word_said (moves_word a h outward (word_at parts far) (first_slot + far) value) (far + 1 == words_of parts)
+said_is a h first_slot far index slot f value v parts outward last found =
+    ap (λ (e : PlainEvent). word_said e last) (event_is a h first_slot far index slot f value v parts outward last found)
+    ∙ ap (λ (b : Bool). word_said (moves_word a h outward (word_at parts far) (first_slot + far) value) b) found.ends
 
-moved_at : (F F' : FramesValue) (W W' : List ℕ) (v : HandleValue) (f slot : ℕ) (parts : List Part) (far index word place value : ℕ) (outward last : Bool)
-    → IsFound v parts far index f last → word ≡ index % 512 → place ≡ slot + far → HasMoved outward F F' W W' f word place value → HasMoved outward F F' W W' f (word_at parts far % 512) (slot + far) value
-moved_at F F' W W' v f slot parts far index word place value outward last found word_is there moved =
-    subst (λ k. HasMoved outward F F' W W' f k (slot + far) value) (word_is ∙ ap (λ i. i % 512) found.word)
-    (subst (λ k. HasMoved outward F F' W W' f word k value) there moved)
+moved_at : (F F' : FramesValue) (W W' : List ℕ) (v : HandleValue) (f first_slot : ℕ) (parts : List Part) (far index slot value : ℕ) (outward last : Bool)
+    → IsFound v first_slot parts far index slot f last → HasMoved outward F F' W W' f (index % 512) slot value → HasMoved outward F F' W W' f (word_at parts far % 512) (first_slot + far) value
+moved_at F F' W W' v f first_slot parts far index slot value outward last found moved =
+    subst (λ k. HasMoved outward F F' W W' f k (first_slot + far) value) (ap (λ i. i % 512) found.word)
+    (subst (λ k. HasMoved outward F F' W W' f (index % 512) k value) found.goes moved)
 
-page_at : (v : HandleValue) (f : ℕ) (parts : List Part) (far index : ℕ) (last : Bool) → IsFound v parts far index f last → slice_get (frames_in v) (word_at parts far / 512) ≡ Some f
-page_at v f parts far index last found =
+page_at : (v : HandleValue) (f first_slot : ℕ) (parts : List Part) (far index slot : ℕ) (last : Bool) → IsFound v first_slot parts far index slot f last → slice_get (frames_in v) (word_at parts far / 512) ≡ Some f
+page_at v f first_slot parts far index slot last found =
     ap (λ i. slice_get (frames_in v) (i / 512)) (sym found.word) ∙ found.page
 
-pub found_turn : (F F' : FramesValue) (H : HandlesValue) (store : Option (List ℕ)) (W W' : List ℕ) (a h f slot : ℕ) (parts : List Part) (far index word place value : ℕ) (outward last : Bool)
-    → store ≡ Some W → refusal_in (H h) a outward (slots_in store) slot parts ≡ None → far < words_of parts
-    → IsFound (H h) parts far index f last → word ≡ index % 512 → place ≡ slot + far → HasMoved outward F F' W W' f word place value
-    → IsTurnOf (ShowsHeld a) (λ s. IsWhole s a h) (view F H store) (view F' H (Some W')) (λ s. transfer_turn s a (slots_in store) h outward slot parts far)
-    (whats_of (word_said (moves_word a h outward index place value) last))
-found_turn F F' H store W W' a h f slot parts far index word place value outward last is unrefused less found word_is there moved =
+pub found_turn : (F F' : FramesValue) (H : HandlesValue) (store : Option (List ℕ)) (W W' : List ℕ) (a h f first_slot : ℕ) (parts : List Part) (far index slot value : ℕ) (outward last : Bool)
+    → store ≡ Some W → refusal_in (H h) a outward (slots_in store) first_slot parts ≡ None → far < words_of parts
+    → IsFound (H h) first_slot parts far index slot f last → HasMoved outward F F' W W' f (index % 512) slot value
+    → IsTurnOf (ShowsHeld a) (λ s. IsWhole s a h) (view F H store) (view F' H (Some W')) (λ s. transfer_turn s a (slots_in store) h outward first_slot parts far)
+    (whats_of (word_said (moves_word a h outward index slot value) last))
+found_turn F F' H store W W' a h f first_slot parts far index slot value outward last is unrefused less found moved =
     let at : ℕ = word_at parts far in
     let final : Bool = far + 1 == words_of parts in
-    let unrefused_so : refusal_in (H h) a outward (length W) slot parts ≡ None = ap (λ k. refusal_in (H h) a outward k slot parts) (sym (ap slots_in is)) ∙ unrefused in
-    let says : whats_of (word_said (moves_word a h outward index place value) last) ≡ moved_whats a h outward final at (slot + far) value =
-    ap whats_of (said_is a h f index place slot far value (H h) parts outward last found there)
-    ∙ word_says (moves_word a h outward at (slot + far) value) final in
-    let P : Option (List ℕ) → Type 0 = λ w. IsTurnOf (ShowsHeld a) (λ s. IsWhole s a h) (view F H w) (view F' H (Some W')) (λ s. transfer_turn s a (slots_in w) h outward slot parts far) (moved_whats a h outward final at (slot + far) value) in
+    let unrefused_so : refusal_in (H h) a outward (length W) first_slot parts ≡ None = ap (λ k. refusal_in (H h) a outward k first_slot parts) (sym (ap slots_in is)) ∙ unrefused in
+    let says : whats_of (word_said (moves_word a h outward index slot value) last) ≡ moved_whats a h outward final at (first_slot + far) value =
+    ap whats_of (said_is a h first_slot far index slot f value (H h) parts outward last found)
+    ∙ word_says (moves_word a h outward at (first_slot + far) value) final in
+    let P : Option (List ℕ) → Type 0 = λ w. IsTurnOf (ShowsHeld a) (λ s. IsWhole s a h) (view F H w) (view F' H (Some W')) (λ s. transfer_turn s a (slots_in w) h outward first_slot parts far) (moved_whats a h outward final at (first_slot + far) value) in
     notes_alike says
     (subst P (sym is)
-    (word_moved F F' H W W' a h f slot parts far value outward unrefused_so (page_at (H h) f parts far index last found)
-    (slot_within (H h) a outward (length W) slot parts far unrefused_so less)
-    (moved_at F F' W W' (H h) f slot parts far index word place value outward last found word_is there moved)))
+    (word_moved F F' H W W' a h f first_slot parts far value outward unrefused_so (page_at (H h) f first_slot parts far index slot last found)
+    (slot_within (H h) a outward (length W) first_slot parts far unrefused_so less)
+    (moved_at F F' W W' (H h) f first_slot parts far index slot value outward last found moved)))
 
 -- ---- whatever the other handles are
 
-pub found_moved : (F F' : FramesValue) (H : HandlesValue) (store : Option (List ℕ)) (W W' : List ℕ) (a h f slot : ℕ) (parts : List Part) (far index word place value : ℕ) (outward last : Bool)
-    → store ≡ Some W → IsFound (H h) parts far index f last → word ≡ index % 512 → place ≡ slot + far → HasMoved outward F F' W W' f word place value
-    → IsMoved (view F H store) (view F' H (Some W')) a h outward (word_at parts far) (slot + far) (far + 1 == words_of parts) (word_said (moves_word a h outward index place value) last)
-found_moved F F' H store W W' a h f slot parts far index word place value outward last is found word_is there moved = (
+pub found_moved : (F F' : FramesValue) (H : HandlesValue) (store : Option (List ℕ)) (W W' : List ℕ) (a h f first_slot : ℕ) (parts : List Part) (far index slot value : ℕ) (outward last : Bool)
+    → store ≡ Some W → IsFound (H h) first_slot parts far index slot f last → HasMoved outward F F' W W' f (index % 512) slot value
+    → IsMoved (view F H store) (view F' H (Some W')) a h outward (word_at parts far) (first_slot + far) (far + 1 == words_of parts) (word_said (moves_word a h outward index slot value) last)
+found_moved F F' H store W W' a h f first_slot parts far index slot value outward last is found moved = (
   f,
   value,
-  page_at (H h) f parts far index last found,
-  subst (λ (ws : List ℕ). HasMoved outward F F' ws W' f (word_at parts far % 512) (slot + far) value) (sym (ap words_in is))
-      (moved_at F F' W W' (H h) f slot parts far index word place value outward last found word_is there moved),
-  said_is a h f index place slot far value (H h) parts outward last found there,
+  page_at (H h) f first_slot parts far index slot last found,
+  subst (λ (ws : List ℕ). HasMoved outward F F' ws W' f (word_at parts far % 512) (first_slot + far) value) (sym (ap words_in is))
+      (moved_at F F' W W' (H h) f first_slot parts far index slot value outward last found moved),
+  said_is a h first_slot far index slot f value (H h) parts outward last found,
 )

@@ -1,8 +1,7 @@
 -- What a word of a transfer does to a pin's frames and to the store of its device, and what refuses it.
 use Rattle.std.specs.Prelude.{◌≡◌, ℕ, ◌+◌, ◌/◌, ◌%◌, ◌==◌, ◌&&◌, nat_le, Bool, true, false, if◌then◌else◌, List, [], length, slice_get, slice_index, Option, Some, None}
 use Rattle.gup_base.specs.Parts.{Part, words_of, word_at}
-use Rattle.std.specs.List.{list_all}
-use Rattle.gup_plain.specs.Denial.{is_held_by, has_words, has_slots, transfer_denial_by}
+use Rattle.gup_plain.specs.Denial.{is_held_by, transfer_denial_by}
 use Rattle.gup_plain.specs.Event.{words}
 use Rattle.gup_plain.specs.Put.{put}
 use Rattle.gup_plain.specs.State as plain
@@ -10,6 +9,7 @@ use Rattle.gup_plain.specs.declared.answer.Answer.{Answer}
 use Rattle.gup_plain.specs.declared.answer.Answer.TheVariants as answers
 use Rattle.gup_frames.specs.Frames.{FramesValue, with_word}
 use Rattle.gup_device.specs.Store.{store_of}
+use Rattle.gup_dio.specs.Job.{job_of, fits_in}
 use Rattle.gup_handles.specs.Handles.{HandleValue, unmade, held, given, got, gone}
 use Rattle.gup_spec_events.specs.State.{CoreState}
 use Rattle.gup_spec_journal.specs.Follows.{moves_word}
@@ -32,24 +32,17 @@ writes_in unmade = false
 writes_in (got by frame) = false
 writes_in gone = false
 
--- the words of these parts are words of so many pages, and as many slots from this one on are of a store of so many
-abbrev pub fits_in : (pages slots slot : ℕ) → List Part → Bool
-fits_in pages slots slot parts = has_words pages parts && has_slots slots slot parts
-
 -- what refuses a transfer, by the pin as it is kept
 abbrev pub refusal_in : HandleValue → (a : ℕ) → (outward : Bool) → (slots slot : ℕ) → List Part → Option Answer
 refusal_in handle a outward slots slot parts =
     transfer_denial_by (is_pin_of handle a) outward (writes_in handle)
-    (fits_in (length (frames_in handle)) slots slot parts)
+    (fits_in (length (frames_in handle)) slots (job_of slot parts))
 
--- the words of these parts are among so many
-abbrev pub are_within : (many : ℕ) → List Part → Bool
-are_within many parts = list_all (λ (part : Part). nat_le (part.0 + part.1) many) parts
-
--- The word of the parts with this number is the one with this index, the frame is that of its page in the pin, and
--- this is whether it is the last.
-pub record IsFound (handle : HandleValue) (parts : List Part) (far index frame : ℕ) (last : Bool) : Type 0 where
+-- The word of the parts with this number is the one with this index, and goes with this slot, where the first of them has that one;
+-- the frame is that of its page in the pin, and this is whether it is the last.
+pub record IsFound (handle : HandleValue) (first_slot : ℕ) (parts : List Part) (far index slot frame : ℕ) (last : Bool) : Type 0 where
   pub word : index ≡ word_at parts far
+  pub goes : slot ≡ first_slot + far
   pub page : slice_get (frames_in handle) (index / words) ≡ Some frame
   pub ends : last ≡ (far + 1 == words_of parts)
 

@@ -1,7 +1,6 @@
 //! Transfers of words between the pages of a pin and the store of a device.
-ghost use Rattle.std.specs.Prelude.{◌≡◌, ℕ, ◌+◌, ◌==◌, ◌*◌, ◌/◌, ◌%◌, ◌^◌, ◌≤◌, ◌<◌, nat_le, length, slice_get, IfOk, IfErr, OnOk, Some, None};
+ghost use Rattle.std.specs.Prelude.{◌≡◌, ℕ, ◌+◌, ◌==◌, ◌%◌, ◌≤◌, ◌<◌, IfOk, IfErr, OnOk, Some, None};
 ghost use Rattle.gup_base.specs.Parts.{words_of, word_at};
-ghost use Rattle.gup_plain.specs.Denial.{has_words};
 ghost use Rattle.gup_plain.specs.declared.answer.Answer.{Answer as AnswerValue};
 ghost use Rattle.gup_frames.specs.Frames.{frames_of, IsFrame};
 ghost use Rattle.gup_device.specs.Store.{store_of, IsSlot};
@@ -11,18 +10,16 @@ ghost use Rattle.gup_spec_turns.specs.DeviceTurns.{transfer_turn};
 ghost use Rattle.gup_op_base.specs.Said.{Tells, TellsTurn, whats_of, happened_said};
 ghost use Rattle.gup_op_base.specs.Turns.{IsTurnOf};
 ghost use Rattle.gup_op_pins.specs.Pins.{IsWeighed};
-ghost use Rattle.gup_op_devices.specs.Transfers.{IsWhole, HasMoved, IsMoved, IsFound, are_within, refusal_in};
+ghost use Rattle.gup_op_devices.specs.Transfers.{IsWhole, HasMoved, IsMoved, IsFound, refusal_in};
 ghost use Rattle.gup_op_pins.specs.Held.{ShowsHeld, IsRefused, held_view, slots_in};
 
-use gup_base::{ActorNo, FrameNo, HandleNo, Parts, WordNo};
+use gup_base::{ActorNo, FrameNo, HandleNo, Parts};
 use gup_device::Store;
+use gup_dio::{Job, Place};
 use gup_frames::Frames;
 use gup_handles::Handles;
 use gup_op_base::Head;
 use gup_plain::{Answer, Journal, PlainEvent};
-
-// The words of a page.
-const WORDS: u32 = 512;
 
 /// One word of a transfer of words in parts, of which `far` are moved: the next word of the parts, out into slot
 /// `slot` + `far` of the actor's store, or in from there. A device reads and writes frames and no pages: no fault comes,
@@ -62,11 +59,9 @@ pub fn transfer(
         → TellsTurn head.now journal.old journal.new result
         (λ said. IsRefused (held_view frames.old handles.now store.old) (held_view frames.new handles.now store.new) denied said) }
 {
-    let parts = parts.as_slice();
     let slots = slots_of(store);
-    match find(
-        handles, head.actor, handle, outward, slots, slot, parts, far,
-    ) {
+    let job = Job::new(slot, parts);
+    match find(handles, head.actor, handle, outward, slots, &job, far) {
         Err(denied) => {
             head.answered(journal, denied);
             true
@@ -77,10 +72,8 @@ pub fn transfer(
                 head.answered(journal, Answer::Range);
                 return true;
             };
-            let place = slot + u32::from(far);
-            let word = word_of(found.index);
-            let value = move_word(frames, store, found.frame, word, place as u16, outward);
-            tell_moved(journal, head, handle, outward, found.index, place, value);
+            let value = move_word(frames, store, found.frame, found.place, outward);
+            tell_moved(journal, head, handle, outward, found.place, value);
             if found.last {
                 head.answered(journal, Answer::Words);
             }
@@ -101,15 +94,15 @@ fn slots_of(store: &Option<Store>) -> u16
     }
 }
 
-// The next word of a transfer: its number in the pin, the frame that has it, and whether it is the last one.
+// The next word of a transfer: where it is, the frame that has it, and whether it is the last one.
 #[derive(Clone, Copy)]
 struct Found {
-    index: u32,
+    place: Place,
     frame: FrameNo,
     last: bool,
 }
 
-// Where the next word of a transfer of these parts is, or what refuses the transfer.
+// Where the next word of a transfer is, or what refuses the transfer.
 #[inline]
 fn find(
     handles: &Handles,
@@ -117,18 +110,18 @@ fn find(
     handle: HandleNo,
     outward: bool,
     slots: u16,
-    slot: u32,
-    parts: &[(u32, u8)],
+    job: &Job,
     far: u16,
 ) -> Result<Found, Answer>
-    requires within { far < words_of parts.now }
-    requires most { words_of parts.now ≤ 64 }
+    requires within { far < words_of job.now.parts }
+    requires few { slots ≤ 4096 }
     ensures refused { IfErr result
-        (λ denied. refusal_in (handles_of handles.now handle) actor outward slots slot parts.now ≡ Some denied) }
+        (λ denied. refusal_in (handles_of handles.now handle) actor outward slots job.now.first_slot job.now.parts ≡ Some denied) }
     ensures unrefused { OnOk result
-        (refusal_in (handles_of handles.now handle) actor outward slots slot parts.now ≡ None) }
+        (refusal_in (handles_of handles.now handle) actor outward slots job.now.first_slot job.now.parts ≡ None) }
     ensures found { IfOk result
-        (λ found. IsFound (handles_of handles.now handle) parts.now far found.index found.frame found.last) }
+        (λ found. IsFound (handles_of handles.now handle) job.now.first_slot job.now.parts far
+        found.place.index found.place.slot found.frame found.last) }
 {
     let Ok((pages, may_write)) = handles.pages(handle, actor) else {
         return Err(Answer::NotHeld);
@@ -136,118 +129,34 @@ fn find(
     if !outward && !may_write {
         return Err(Answer::Forbidden);
     }
-    let survey = look_over(parts, far, pages.len());
-    if !survey.within || u64::from(slot) + u64::from(survey.many) > u64::from(slots) {
+    if !job.fits(pages.len(), slots) {
         return Err(Answer::Range);
     }
-    let index = survey.index as u32;
+    let place = job.at(far);
     Ok(Found {
-        index,
-        frame: frame_at(pages, index),
-        last: far + 1 == survey.many,
+        place,
+        frame: pages[place.page()],
+        last: far + 1 == u16::from(job.words()),
     })
 }
 
-// What there is to know of parts: which word of the pin is the next one, how many words there are, and whether all are
-// words of the pin's pages.
-#[derive(Clone, Copy)]
-struct Survey {
-    index: u64,
-    many: u16,
-    within: bool,
-}
-
-// Goes over the parts once, for the word with the number `far`, from 0, of words of so many pages.
-#[inline]
-fn look_over(parts: &[(u32, u8)], far: u16, pages: usize) -> Survey
-    requires pages { pages ≤ 16 }
-    requires within { far < words_of parts.now }
-    requires most { words_of parts.now ≤ 64 }
-    ensures index { result.index ≡ word_at parts.now far }
-    ensures many { result.many ≡ words_of parts.now }
-    ensures within { result.within ≡ has_words pages parts.now }
-{
-    let words = u64::from(WORDS) * pages as u64;
-    // Most transfers have one part.
-    if let [part] = parts {
-        return Survey {
-            index: u64::from(part.0) + u64::from(far),
-            many: u16::from(part.1),
-            within: ends_within(part.0, part.1, words),
-        };
-    }
-    look_over_all(parts, far, words)
-}
-
-// The same of any parts.
-fn look_over_all(parts: &[(u32, u8)], far: u16, words: u64) -> Survey
-    requires within { far < words_of parts.now }
-    requires most { words_of parts.now ≤ 64 }
-    ensures index { result.index ≡ word_at parts.now far }
-    ensures many { result.many ≡ words_of parts.now }
-    ensures within { result.within ≡ are_within words parts.now }
-{
-    let mut index = 0;
-    let mut many = 0;
-    let mut within = true;
-    for part in parts {
-        // The last part that begins at this word or before it has it.
-        if many <= far {
-            index = u64::from(part.0) + u64::from(far - many);
-        }
-        within &= ends_within(part.0, part.1, words);
-        many += u16::from(part.1);
-    }
-    Survey {
-        index,
-        many,
-        within,
-    }
-}
-
-// Whether `n` words from this one on are among the first `words`.
-#[inline]
-fn ends_within(first: u32, n: u8, words: u64) -> bool
-    ensures { result ≡ nat_le (first + n) words }
-{
-    u64::from(first) + u64::from(n) <= words
-}
-
-// The frame that has the word with this index.
-#[inline]
-fn frame_at(pages: &[FrameNo], index: u32) -> FrameNo
-    requires { index < 512 * length pages.now }
-    ensures { slice_get pages.now (index / 512) ≡ Some result }
-{
-    pages[(index / WORDS) as usize]
-}
-
-// The place of the word with this index in its frame.
-#[inline]
-fn word_of(index: u32) -> WordNo
-    ensures { result ≡ index % 512 }
-{
-    WordNo::new(u64::from(index % WORDS)).unwrap()
-}
-
-// Moves a word of the frame out into the slot, or in from there.
+// Moves a word of the frame out into its slot, or in from there.
 #[inline]
 fn move_word(
     frames: &mut Frames,
     store: &mut Store,
     frame: FrameNo,
-    word: WordNo,
-    slot: u16,
+    place: Place,
     outward: bool,
 ) -> u64
-    requires slot { IsSlot (store_of store.old) slot }
+    requires slot { IsSlot (store_of store.old) place.slot }
     requires there { IsFrame (frames_of frames.old) frame }
-    ensures { HasMoved outward (frames_of frames.old) (frames_of frames.new) store.old store.new frame word slot result }
+    ensures { HasMoved outward (frames_of frames.old) (frames_of frames.new) store.old store.new frame (place.index % 512) place.slot result }
 {
     if outward {
-        store.word_out(frames, frame, word, slot)
+        store.word_out(frames, frame, place.word(), place.slot)
     } else {
-        store.word_in(frames, frame, word, slot)
+        store.word_in(frames, frame, place.word(), place.slot)
     }
 }
 
@@ -258,16 +167,17 @@ fn tell_moved(
     head: &Head,
     handle: HandleNo,
     outward: bool,
-    index: u32,
-    slot: u32,
+    place: Place,
     value: u64,
 )
     requires room { 1 ≤ journal.old.room }
     ensures says { Tells head.now journal.old journal.new
-        (happened_said (moves_word head.now.actor handle outward index slot value)) }
+        (happened_said (moves_word head.now.actor handle outward place.index place.slot value)) }
     ensures room { journal.old.room ≤ journal.new.room + 1 }
 {
     let actor = head.actor;
+    let index = place.index;
+    let slot = u32::from(place.slot);
     if outward {
         head.happened(
             journal,

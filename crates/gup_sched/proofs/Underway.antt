@@ -175,3 +175,11 @@ few_turns script m notes from r costs h =
     let cheap = h.cheap in
     let start = costs.start in
     omega (arith, cheap, start)
+
+-- and the machine has counted each of them
+pub counts_turns : (script : ScriptValue) (m : MachineValue) (notes : List NoteValue) (from : ℕ) (r : RunState) → HasCosts script → IsPointed script m notes from r → m.turns ≡ r.turns
+counts_turns script m notes from r costs h =
+    let shown = h.underway.shown.turns in
+    let cheap = h.cheap in
+    let few = costs.few in
+    grind (arith, nat_tests)

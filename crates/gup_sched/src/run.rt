@@ -33,7 +33,8 @@ pub fn run_all(alloc: Global, machine: Machine, script: &Script) -> Result<Run, 
     requires { IsNew script.now machine }
     ensures core { IfOk result (λ run. (end : RunState) × IsCoreRun script.now run.journal.notes end
         × Shows run.machine end × SaysStuck run.stuck script.now end
-        × (end.turns ≤ length script.now.turns + (1025 * operations script.now + 527361 * forks script.now))) }
+        × (end.turns ≤ length script.now.turns + (1025 * operations script.now + 527361 * forks script.now))
+        × (run.machine.turns ≡ end.turns)) }
     ensures script { IfOk result (λ run. run.machine.script ≡ script.now) }
 {
     let _script = script;
@@ -45,7 +46,8 @@ pub fn run_machine(alloc: Global, machine: Machine) -> Result<Run, NoMemory>
     requires { IsNew machine.script machine }
     ensures core { IfOk result (λ run. (end : RunState) × IsCoreRun machine.script run.journal.notes end
         × Shows run.machine end × SaysStuck run.stuck machine.script end
-        × (end.turns ≤ length machine.script.turns + (1025 * operations machine.script + 527361 * forks machine.script))) }
+        × (end.turns ≤ length machine.script.turns + (1025 * operations machine.script + 527361 * forks machine.script))
+        × (run.machine.turns ≡ end.turns)) }
     ensures script { IfOk result (λ run. run.machine.script ≡ machine.script) }
 {
     reached_states_stand();

@@ -5,22 +5,23 @@ use Rattle.gup_frames.specs.Frames.{frames_of}
 use Rattle.gup_handles.specs.Handles.{HandleValue, handles_of}
 use Rattle.gup_op_base.specs.Said.{happened_said, answered_said}
 use Rattle.gup_spec_journal.specs.Follows.{moves_word}
+use Rattle.gup_dio.specs.Job.{JobValue, job_of}
 use Rattle.gup_op_pins.specs.Held.{slots_in}
 use Rattle.gup_op_pins.proofs.Telling.{told_after}
 use Rattle.gup_op_devices.specs.Transfers.{IsFound, refusal_in}
 use Rattle.gup_op_devices.proofs.Moving.{word_said, found_turn, found_moved}
 use Rattle.gup_op_devices.proofs.transfers.transfer.Goals as goal
 
--- as the code names the parts and the slots
-found_in : (v : HandleValue) (parts was : List Part) (far index frame : ℕ) (is_last last : Bool) → was ≡ parts → IsFound v was far index frame is_last → is_last ≡ last → IsFound v parts far index frame last
-found_in v parts was far index frame is_last last same found is =
-    subst (λ (b : Bool). IsFound v parts far index frame b) is
-    (subst (λ (ps : List Part). IsFound v ps far index frame is_last) same found)
+-- as the contract names the parts and the slots
+found_in : (v : HandleValue) (slot : ℕ) (parts : List Part) (job : JobValue) (far index place frame : ℕ) (is_last last : Bool) → job ≡ job_of slot parts → IsFound v job.first_slot job.parts far index place frame is_last → is_last ≡ last → IsFound v slot parts far index place frame last
+found_in v slot parts job far index place frame is_last last same found is =
+    subst (λ (b : Bool). IsFound v slot parts far index place frame b) is
+    (subst (λ (j : JobValue). IsFound v j.first_slot j.parts far index place frame is_last) same found)
 
-unrefused : (v : HandleValue) (a : ℕ) (outward : Bool) (store : Option (List ℕ)) (slots slot : ℕ) (parts was : List Part) → slots ≡ slots_in store → was ≡ parts → refusal_in v a outward slots slot was ≡ None
+unrefused : (v : HandleValue) (a : ℕ) (outward : Bool) (store : Option (List ℕ)) (slots slot : ℕ) (parts : List Part) (job : JobValue) → slots ≡ slots_in store → job ≡ job_of slot parts → refusal_in v a outward slots job.first_slot job.parts ≡ None
     → refusal_in v a outward (slots_in store) slot parts ≡ None
-unrefused v a outward store slots slot parts was many same none =
-    ap (λ k. refusal_in v a outward k slot parts) (sym many) ∙ ap (λ (ps : List Part). refusal_in v a outward slots slot ps) (sym same) ∙ none
+unrefused v a outward store slots slot parts job many same none =
+    ap (λ k. refusal_in v a outward k slot parts) (sym many) ∙ ap (λ (j : JobValue). refusal_in v a outward slots j.first_slot j.parts) (sym same) ∙ none
 
 pub move_word-value-requires-clause-there : goal.move_word-value-requires-clause-there
 move_word-value-requires-clause-there c =
@@ -34,16 +35,16 @@ returns-else-found-clause-turn c =
     let F1 = frames_of c.move_word-value.new.frames in
     let H = handles_of a.handles.now in
     let word = c.in-Ok.found in
-    let place = a.slot + c.from.result in
-    let found = found_in (H a.handle) a.parts.now c.as_slice-parts.result.now a.far word.index word.frame word.last false c.as_slice-parts.ensures c.in-Ok.ensures.found c.if-found.false in
+    let place = word.place in
+    let found = found_in (H a.handle) a.slot a.parts.now c.new-job.result a.far place.index place.slot word.frame word.last false c.new-job.ensures c.in-Ok.ensures.found c.if-found.false in
     record {
-      said = word_said (moves_word actor a.handle a.outward word.index place c.move_word-value.result) false;
+      said = word_said (moves_word actor a.handle a.outward place.index place.slot c.move_word-value.result) false;
       tells = c.tell_moved.ensures.says;
       ends = c.if-found.false;
       is_so =
-          found_turn F F1 H a.store.now c.in-Some.store c.move_word-value.new.store actor a.handle word.frame a.slot a.parts.now a.far word.index c.word_of-word.result place c.move_word-value.result a.outward false
-          c.in-Some.is (unrefused (H a.handle) actor a.outward a.store.now c.slots_of-slots.result a.slot a.parts.now c.as_slice-parts.result.now c.slots_of-slots.ensures.slots c.as_slice-parts.ensures c.in-Ok.ensures.unrefused)
-          c.requires.within found c.word_of-word.ensures (ap (λ k. a.slot + k) c.from.ensures) c.move_word-value.ensures;
+          found_turn F F1 H a.store.now c.in-Some.store c.move_word-value.new.store actor a.handle word.frame a.slot a.parts.now a.far place.index place.slot c.move_word-value.result a.outward false
+          c.in-Some.is (unrefused (H a.handle) actor a.outward a.store.now c.slots_of-slots.result a.slot a.parts.now c.new-job.result c.slots_of-slots.ensures.slots c.new-job.ensures c.in-Ok.ensures.unrefused)
+          c.requires.within found c.move_word-value.ensures;
     }
 
 pub returns-else-found-clause-moved : goal.returns-else-found-clause-moved
@@ -54,15 +55,15 @@ returns-else-found-clause-moved c none =
     let F1 = frames_of c.move_word-value.new.frames in
     let H = handles_of a.handles.now in
     let word = c.in-Ok.found in
-    let place = a.slot + c.from.result in
-    let found = found_in (H a.handle) a.parts.now c.as_slice-parts.result.now a.far word.index word.frame word.last false c.as_slice-parts.ensures c.in-Ok.ensures.found c.if-found.false in
+    let place = word.place in
+    let found = found_in (H a.handle) a.slot a.parts.now c.new-job.result a.far place.index place.slot word.frame word.last false c.new-job.ensures c.in-Ok.ensures.found c.if-found.false in
     record {
-      said = word_said (moves_word actor a.handle a.outward word.index place c.move_word-value.result) false;
+      said = word_said (moves_word actor a.handle a.outward place.index place.slot c.move_word-value.result) false;
       tells = c.tell_moved.ensures.says;
       ends = c.if-found.false;
       is_so =
-          found_moved F F1 H a.store.now c.in-Some.store c.move_word-value.new.store actor a.handle word.frame a.slot a.parts.now a.far word.index c.word_of-word.result place c.move_word-value.result a.outward false
-          c.in-Some.is found c.word_of-word.ensures (ap (λ k. a.slot + k) c.from.ensures) c.move_word-value.ensures;
+          found_moved F F1 H a.store.now c.in-Some.store c.move_word-value.new.store actor a.handle word.frame a.slot a.parts.now a.far place.index place.slot c.move_word-value.result a.outward false
+          c.in-Some.is found c.move_word-value.ensures;
     }
 
 pub returns-then-found-clause-turn : goal.returns-then-found-clause-turn
@@ -73,17 +74,17 @@ returns-then-found-clause-turn c =
     let F1 = frames_of c.move_word-value.new.frames in
     let H = handles_of a.handles.now in
     let word = c.in-Ok.found in
-    let place = a.slot + c.from.result in
-    let found = found_in (H a.handle) a.parts.now c.as_slice-parts.result.now a.far word.index word.frame word.last true c.as_slice-parts.ensures c.in-Ok.ensures.found c.if-found.true in
+    let place = word.place in
+    let found = found_in (H a.handle) a.slot a.parts.now c.new-job.result a.far place.index place.slot word.frame word.last true c.new-job.ensures c.in-Ok.ensures.found c.if-found.true in
     record {
-      said = word_said (moves_word actor a.handle a.outward word.index place c.move_word-value.result) true;
-      tells = told_after a.head.now a.journal.now c.tell_moved.new.journal c.answered-then-found.new.journal (happened_said (moves_word actor a.handle a.outward word.index place c.move_word-value.result)) (answered_said answers.Words)
-          (word_said (moves_word actor a.handle a.outward word.index place c.move_word-value.result) true) c.tell_moved.ensures.says c.answered-then-found.ensures refl;
+      said = word_said (moves_word actor a.handle a.outward place.index place.slot c.move_word-value.result) true;
+      tells = told_after a.head.now a.journal.now c.tell_moved.new.journal c.answered-then-found.new.journal (happened_said (moves_word actor a.handle a.outward place.index place.slot c.move_word-value.result)) (answered_said answers.Words)
+          (word_said (moves_word actor a.handle a.outward place.index place.slot c.move_word-value.result) true) c.tell_moved.ensures.says c.answered-then-found.ensures refl;
       ends = c.if-found.true;
       is_so =
-          found_turn F F1 H a.store.now c.in-Some.store c.move_word-value.new.store actor a.handle word.frame a.slot a.parts.now a.far word.index c.word_of-word.result place c.move_word-value.result a.outward true
-          c.in-Some.is (unrefused (H a.handle) actor a.outward a.store.now c.slots_of-slots.result a.slot a.parts.now c.as_slice-parts.result.now c.slots_of-slots.ensures.slots c.as_slice-parts.ensures c.in-Ok.ensures.unrefused)
-          c.requires.within found c.word_of-word.ensures (ap (λ k. a.slot + k) c.from.ensures) c.move_word-value.ensures;
+          found_turn F F1 H a.store.now c.in-Some.store c.move_word-value.new.store actor a.handle word.frame a.slot a.parts.now a.far place.index place.slot c.move_word-value.result a.outward true
+          c.in-Some.is (unrefused (H a.handle) actor a.outward a.store.now c.slots_of-slots.result a.slot a.parts.now c.new-job.result c.slots_of-slots.ensures.slots c.new-job.ensures c.in-Ok.ensures.unrefused)
+          c.requires.within found c.move_word-value.ensures;
     }
 
 pub returns-then-found-clause-moved : goal.returns-then-found-clause-moved
@@ -94,14 +95,14 @@ returns-then-found-clause-moved c none =
     let F1 = frames_of c.move_word-value.new.frames in
     let H = handles_of a.handles.now in
     let word = c.in-Ok.found in
-    let place = a.slot + c.from.result in
-    let found = found_in (H a.handle) a.parts.now c.as_slice-parts.result.now a.far word.index word.frame word.last true c.as_slice-parts.ensures c.in-Ok.ensures.found c.if-found.true in
+    let place = word.place in
+    let found = found_in (H a.handle) a.slot a.parts.now c.new-job.result a.far place.index place.slot word.frame word.last true c.new-job.ensures c.in-Ok.ensures.found c.if-found.true in
     record {
-      said = word_said (moves_word actor a.handle a.outward word.index place c.move_word-value.result) true;
-      tells = told_after a.head.now a.journal.now c.tell_moved.new.journal c.answered-then-found.new.journal (happened_said (moves_word actor a.handle a.outward word.index place c.move_word-value.result)) (answered_said answers.Words)
-          (word_said (moves_word actor a.handle a.outward word.index place c.move_word-value.result) true) c.tell_moved.ensures.says c.answered-then-found.ensures refl;
+      said = word_said (moves_word actor a.handle a.outward place.index place.slot c.move_word-value.result) true;
+      tells = told_after a.head.now a.journal.now c.tell_moved.new.journal c.answered-then-found.new.journal (happened_said (moves_word actor a.handle a.outward place.index place.slot c.move_word-value.result)) (answered_said answers.Words)
+          (word_said (moves_word actor a.handle a.outward place.index place.slot c.move_word-value.result) true) c.tell_moved.ensures.says c.answered-then-found.ensures refl;
       ends = c.if-found.true;
       is_so =
-          found_moved F F1 H a.store.now c.in-Some.store c.move_word-value.new.store actor a.handle word.frame a.slot a.parts.now a.far word.index c.word_of-word.result place c.move_word-value.result a.outward true
-          c.in-Some.is found c.word_of-word.ensures (ap (λ k. a.slot + k) c.from.ensures) c.move_word-value.ensures;
+          found_moved F F1 H a.store.now c.in-Some.store c.move_word-value.new.store actor a.handle word.frame a.slot a.parts.now a.far place.index place.slot c.move_word-value.result a.outward true
+          c.in-Some.is found c.move_word-value.ensures;
     }

@@ -10,7 +10,7 @@ use Rattle.gup_core.specs.Machine.{MachineValue, Shows}
 use Rattle.gup_core.specs.Going.{WritesTurn, Stays}
 use Rattle.gup_sched.specs.Awake.{AwakeValue, is_awake, AreAsleep, AreAsleepAfter}
 use Rattle.gup_sched.specs.Ran.{SaysStuck, FoundTakes}
-use Rattle.gup_sched.proofs.Underway.{has_costs, IsWritten, written_first, written_turn, IsPointed, pointed_first, pointed_turn, pointed_end, few_turns, most}
+use Rattle.gup_sched.proofs.Underway.{has_costs, IsWritten, written_first, written_turn, IsPointed, pointed_first, pointed_turn, pointed_end, few_turns, counts_turns, most}
 use Rattle.gup_sched.proofs.run.run_machine.Goals as goal
 
 -- the written turns
@@ -153,8 +153,9 @@ returns-clause-core c =
     let asleep = of_own script m.script r c.loop-journal.awake.actors n (is_awake c.loop-journal.awake) h.underway.same are c.loop-journal.invariant.2.2 in
     let costs = has_costs script (subst IsScript c.script.ensures c.actors-actors.ensures.valid) c.turns_are_spent.ensures.spent c.turns_are_spent.ensures.kept c.turns_are_spent.ensures.start c.costs_are_few.ensures c.reached_states_stand.ensures in
     let turns = few_turns script m c.loop-journal.journal.notes c.loop-journal.pointer r costs h in
+    let counts = counts_turns script m c.loop-journal.journal.notes c.loop-journal.pointer r costs h in
     let none = is_pointed script m.script r c.loop-journal.awake.actors n c.loop-journal.pointer c.in_ok-actor.field-0 None h.underway.same are (c.actors-actors.ensures.count ∙ ap (λ (s : ScriptValue). length s.actors) c.script.ensures) (c.in_ok-actor.ensures.next r h.underway.shown asleep) c.in_default.is in
     let stays = no_more m o c.loop-journal.journal c.next_to_go.new.journal c.in_ok-actor.field-0 c.in_default.is c.in_ok-actor.ensures.turn in
     let shown : Shows o r = subst (λ (x : MachineValue). Shows x r) (sym stays.machine) h.underway.shown in
     let same : o.script ≡ script = ap (λ (x : MachineValue). x.script) stays.machine ∙ h.underway.same in
-    (r, subst (λ (ns : List NoteValue). IsCoreRun script ns r) (sym stays.notes) (pointed_end script m c.loop-journal.journal.notes c.loop-journal.pointer r none h), shown, stuck_at c.is_stuck.result o.script script r same (c.is_stuck.ensures r shown), turns)
+    (r, subst (λ (ns : List NoteValue). IsCoreRun script ns r) (sym stays.notes) (pointed_end script m c.loop-journal.journal.notes c.loop-journal.pointer r none h), shown, stuck_at c.is_stuck.result o.script script r same (c.is_stuck.ensures r shown), turns, ap (λ (x : MachineValue). x.turns) stays.machine ∙ counts)
