@@ -1,3 +1,4 @@
 pub mod Cause
 pub mod Stuck
+pub mod Summary
 pub mod Report

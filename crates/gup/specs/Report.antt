@@ -1,8 +1,11 @@
 -- What the top call is asked, and what it may answer.
-use Rattle.std.specs.Prelude.{◌≡◌, ℕ, ◌⊎◌, Bool, false, List, [], ◌∷◌, ◌++◌, codes, decimal, drop, length, Option, None, Some}
+use Rattle.std.specs.Prelude.{◌≡◌, ℕ, ◌<◌, ◌^◌, ◌⊎◌, Bool, false, List, [], ◌∷◌, ◌++◌, codes, decimal, drop, length, Option, None, Some}
 use Rattle.gup_plain.specs.Note.{NoteValue}
 use Rattle.gup_spec_turns.specs.Cost.{operations}
-use Rattle.gup_spec_turns.specs.Run.{RunState, IsCoreRun}
+use Rattle.gup_plain.specs.declared.note.Waiting.{Waiting}
+use Rattle.gup_spec_turns.specs.Cause.{WaitsForBirthOrPin}
+use Rattle.gup_spec_turns.specs.Run.{RunState, IsCoreRun, waiting_in}
+use Rattle.gup_core.specs.Machine.{MachineValue, Shows}
 use Rattle.gup_sched.specs.Ran.{SaysStuck}
 use Rattle.gup_lines.specs.Text.{outcomes_of}
 use Rattle.gup_io.specs.Faults.{EndsInFault}
@@ -13,11 +16,15 @@ use Rattle.gup_spec_journal.specs.Follows.{Follows}
 use Rattle.gup_spec_journal.specs.Order.{InOrder}
 use Rattle.gup_spec_journal.specs.Place.{starts_born}
 use Rattle.gup_law_owners.specs.Owners.{OwnsBytes, journal_events}
+use Rattle.gup.specs.declared.command.Command.{Command}
+use Rattle.gup.specs.declared.command.Command.TheVariants.{Run, Make}
 use Rattle.gup.specs.declared.top.Unread.{Unread}
 use Rattle.gup.specs.declared.top.Unread.TheVariants.{Failed, Fault, NoMemory}
 use Rattle.gup.specs.Cause.{HasCauses}
 use Rattle.gup_spec_journal.specs.Stale.{AreStaleSeen}
+use Rattle.gup_make.specs.Made.{made_text}
 use Rattle.gup.specs.Stuck.{IsFinishedRun, IsStuckRun, AreWaiting, run_text}
+use Rattle.gup.specs.Summary.{summary_text}
 use Rattle.gup_spec_grammar.specs.Fault.{HasFault}
 use Rattle.gup_spec_grammar.specs.Grammar.{Accepts}
 use Rattle.gup_spec_grammar.specs.declared.fault.Reason.{Reason}
@@ -29,9 +36,18 @@ use Rattle.gup_script.specs.Script.{ScriptValue}
 abbrev pub IsRun : List (List ℕ) → Type 0
 IsRun words = words ≡ codes "run" ∷ []
 
--- the words are a command: there is one so far
+-- The command `make`: that word, and a number below 2^64, as it is spelled without a sign or a zero in front.
+abbrev pub IsMake : List (List ℕ) → (n : ℕ) → Type 0
+IsMake words n = (words ≡ codes "make" ∷ decimal n ∷ []) × (n < 2 ^ 64)
+
+-- the words are a command: one of the two
 abbrev pub IsCommand : List (List ℕ) → Type 0
-IsCommand words = IsRun words
+IsCommand words = IsRun words ⊎ ((n : ℕ) × IsMake words n)
+
+-- the words are those of this command
+abbrev pub IsAsked : List (List ℕ) → Command → Type 0
+IsAsked words Run = IsRun words
+IsAsked words (Make n) = IsMake words n
 
 -- the statuses that `run` has
 abbrev pub IsStatus : ℕ → Type 0
@@ -92,9 +108,9 @@ IsUnreadFor told faults faults_after faulted_after Failed = EndsInFault faults f
 IsUnreadFor told faults faults_after faulted_after (Fault fault) = IsRefusedFor told fault
 IsUnreadFor told faults faults_after faulted_after NoMemory = Unit {0}
 
--- What is said of a run of the script that was read. At its end an actor has operations left and waits, or each has
--- finished, and then each operation has one answer. The text is that of the run.
-pub record IsRunOf (script : ScriptValue) (stuck : Bool) (notes : List NoteValue) (text : List ℕ) : Type 0 where
+-- What is said of a run of a script. At its end an actor has operations left and waits, or each has finished, and then each
+-- operation has one answer.
+pub record IsRunOf (script : ScriptValue) (stuck : Bool) (notes : List NoteValue) (end : RunState) : Type 0 where
   pub follows : Follows script notes
   pub in_order : InOrder script notes
   pub plain : IsPlain script notes
@@ -102,17 +118,36 @@ pub record IsRunOf (script : ScriptValue) (stuck : Bool) (notes : List NoteValue
   pub owned : OwnsBytes (starts_born script) (journal_events notes)
   pub causes : HasCauses script notes
   pub stale : AreStaleSeen script notes
-  pub end : RunState
   pub core : IsCoreRun script notes end
   pub ends : SaysStuck stuck script end
   pub waits : AreWaiting script end
   pub lines : stuck ≡ false → length (outcomes_of notes) ≡ operations script
-  pub text_is : text ≡ run_text script notes end
+
+-- the machine shows the end of the run, and how many turns it had, and who waits there waits for a process or for a pin
+pub record IsEndOfRun (script : ScriptValue) (stuck : Bool) (notes : List NoteValue) (machine : MachineValue) (end : RunState) : Type 0 where
+  pub run : IsRunOf script stuck notes end
+  pub shown : Shows machine end
+  pub turns : machine.turns ≡ end.turns
+  pub named : (a : ℕ) (waiting : Waiting) → waiting_in script end a ≡ Some waiting → WaitsForBirthOrPin script waiting
+
+-- the script has run to this journal, and this is the text of the run
+abbrev pub IsToldRun : ScriptValue → (stuck : Bool) → List NoteValue → (text : List ℕ) → Type 0
+IsToldRun script stuck notes text = (end : RunState) × IsRunOf script stuck notes end × (text ≡ run_text script notes end)
 
 -- the script has run to this journal, and a sink has taken a prefix of its text, and not all of it
 abbrev pub IsPartlyTold : ScriptValue → List NoteValue → (taken taken_after : Option (List ℕ)) → Type 0
 IsPartlyTold script notes taken taken_after =
-    (stuck : Bool) × (text : List ℕ) × IsRunOf script stuck notes text × AppendsPart taken taken_after text
+    (stuck : Bool) × (text : List ℕ) × IsToldRun script stuck notes text × AppendsPart taken taken_after text
+
+-- the text that is made from n is that of a script, which has run, and this is the summary of the run
+abbrev pub IsMadeRun : (n : ℕ) → (stuck : Bool) → (text : List ℕ) → Type 0
+IsMadeRun n stuck text =
+    (script : ScriptValue) × (notes : List NoteValue) × (end : RunState)
+    × Accepts (made_text n) script × IsRunOf script stuck notes end × (text ≡ summary_text script notes end)
+
+-- the statuses that `make` has: those of a script, which is not read from the source
+abbrev pub IsMadeStatus : ℕ → Type 0
+IsMadeStatus status = HasRun status ⊎ (status ≡ 6) ⊎ (status ≡ 7)
 
 -- which of the statuses a script has that is run without a fault, and what is so then
 abbrev pub IsEnd : ScriptValue → (status : ℕ) → List NoteValue → Type 0

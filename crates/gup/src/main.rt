@@ -4,8 +4,10 @@
 ghost use Rattle.std.specs.Prelude.{◌≡◌};
 ghost use Rattle.std.specs.Process.{exit_status};
 
+mod command;
 #[cfg(test)]
 mod examples;
+mod summary;
 #[cfg(test)]
 mod tests;
 mod text;

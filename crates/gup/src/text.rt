@@ -61,7 +61,8 @@ fn push_stuck_line(
     }
 }
 
-fn push_text(text: &mut Vec<u8>, piece: &str) -> Result<(), NoMemory>
+/// Appends the piece.
+pub fn push_text(text: &mut Vec<u8>, piece: &str) -> Result<(), NoMemory>
     ensures { OnOk result (text.new.items ≡ text.old.items ++ piece.now) }
 {
     text.extend_from_slice(piece.as_bytes())?;

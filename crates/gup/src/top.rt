@@ -1,5 +1,5 @@
 //! The top call: what the program does, from its words and its bytes to its text.
-ghost use Rattle.std.specs.Prelude.{◌≡◌, ℕ, ◌⊎◌, List, [], None, Some, IsSome, IfSome, IfOk, OnOk, IfErr, Err, IsTrue, true, false, if◌then◌else◌, ◌↔◌, map, codes, string_bytes, length, take, ◌+◌};
+ghost use Rattle.std.specs.Prelude.{◌≡◌, ℕ, ◌⊎◌, Bool, List, [], None, Some, IsSome, IfSome, IfOk, OnOk, IfErr, Err, IsTrue, true, false, if◌then◌else◌, ◌↔◌, map, codes, string_bytes, length, take, ◌+◌};
 ghost use Rattle.std.specs.Io.KnownBytes.{Appends};
 ghost use Rattle.gup_io.specs.Transfers.{Loses, AppendsPart};
 ghost use Rattle.gup_io.specs.Faults.{HasCause, EndsInFault};
@@ -16,8 +16,15 @@ ghost use Rattle.gup_lines.specs.Text.{text_of, outcomes_of};
 ghost use Rattle.gup.specs.Cause.{HasCauses};
 ghost use Rattle.gup_spec_journal.specs.Stale.{AreStaleSeen};
 ghost use Rattle.gup.specs.Stuck.{IsFinishedRun, IsStuckRun, run_text};
-ghost use Rattle.gup.specs.Report.{IsRun, IsCommand, IsStatus, HasRun, OfScript, AreScript, IsRunOf, IsPartlyTold, IsEnd, IsScriptOf, IsUnreadFor, IsRefusedFor, IsReadThrough, IfFault, usage, refusal_text};
+ghost use Rattle.gup.specs.Report.{IsRun, IsMake, IsCommand, IsStatus, IsMadeStatus, HasRun, OfScript, AreScript, IsEndOfRun, IsToldRun, IsMadeRun, IsPartlyTold, IsEnd, IsScriptOf, IsUnreadFor, IsRefusedFor, IsReadThrough, IfFault, usage, refusal_text};
+ghost use Rattle.gup.specs.Summary.{summary_text};
+ghost use Rattle.gup_core.specs.Machine.{Shows};
+ghost use Rattle.gup_make.specs.Made.{made_text};
+ghost use Rattle.gup_spec_grammar.specs.Grammar.{Accepts};
+ghost use Rattle.gup_spec_turns.specs.Cause.{WaitsForBirthOrPin};
 
+use crate::command::{Command, command};
+use crate::summary::summary_lines;
 use crate::text::{journal_text, push_stuck_lines, refusal_line};
 use gup_base::NoMemory;
 use gup_core::Machine;
@@ -27,11 +34,13 @@ use gup_law_journal::{
     finished_runs_answer_all, looks_have_their_cause, moves_have_their_causes,
     no_frame_has_its_cause, pins_have_their_causes, runs_end_at_waits,
 };
+use gup_law_made::made_texts_are_scripts;
 use gup_law_mirrors::looks_are_stale_with_cause;
 use gup_law_owners::plain_journals_are_owned;
+use gup_make::make_text;
 use gup_plain::Journal;
 use gup_read::{one_script, read_script, scripts_have_no_fault};
-use gup_sched::run_machine;
+use gup_sched::{Run, run_machine};
 use gup_script::Script;
 use gup_spec_grammar::{ReadRefusal, ScriptFault};
 use std::alloc::Global;
@@ -60,22 +69,6 @@ impl Report {
             refusal,
         }
     }
-}
-
-// Are the words those of `run`?
-fn is_run(words: &[String]) -> bool
-    ensures { IsTrue result ↔ IsRun (map string_bytes words.now) }
-{
-    match words {
-        [word] => says_run(word.as_str()),
-        _ => false,
-    }
-}
-
-fn says_run(word: &str) -> bool
-    ensures { IsTrue result ↔ (word.now ≡ codes "run") }
-{
-    word == "run"
 }
 
 // Why there is no script to run.
@@ -111,17 +104,10 @@ fn read<S: Source>(alloc: Global, source: &mut S) -> Result<Script, Unread>
     }
 }
 
-// A script that has run: its journal, whether actors are stuck at its end, and its text.
-#[derive(Debug, Drop)]
-struct Told {
-    journal: Journal,
-    stuck: bool,
-    text: Vec<u8>,
-}
-
-// Runs the script.
-fn run_script(alloc: Global, script: Script) -> Result<Told, NoMemory>
-    ensures { IfOk result (λ told. IsRunOf script told.stuck told.journal.notes told.text.items) }
+// Runs the script. The machine shows the end of the run, and there an actor waits for a process or for a pin.
+fn run_script(alloc: Global, script: Script) -> Result<Run, NoMemory>
+    ensures run { IfOk result (λ ran. (end : RunState) × IsEndOfRun script ran.stuck ran.journal.notes ran.machine end) }
+    ensures script { IfOk result (λ ran. ran.machine.script ≡ script) }
 {
     core_run_follows();
     core_run_is_in_order();
@@ -137,7 +123,22 @@ fn run_script(alloc: Global, script: Script) -> Result<Told, NoMemory>
     finished_runs_answer_all();
     let _actors = script.actors();
     let machine = Machine::of(alloc, script)?;
-    let ran = run_machine(alloc, machine)?;
+    run_machine(alloc, machine)
+}
+
+// A script that has run: its journal, whether actors are stuck at its end, and what is to be said of it.
+#[derive(Debug, Drop)]
+struct Told {
+    journal: Journal,
+    stuck: bool,
+    text: Vec<u8>,
+}
+
+// Runs the script, for its answers and the actors that are stuck.
+fn tell_run(alloc: Global, script: Script) -> Result<Told, NoMemory>
+    ensures { IfOk result (λ told. IsToldRun script told.stuck told.journal.notes told.text.items) }
+{
+    let ran = run_script(alloc, script)?;
     let mut text = journal_text(alloc, ran.machine.script(), &ran.journal)?;
     push_stuck_lines(ran.machine.script(), &ran.machine, &mut text)?;
     Ok(Told {
@@ -145,6 +146,36 @@ fn run_script(alloc: Global, script: Script) -> Result<Told, NoMemory>
         stuck: ran.stuck,
         text,
     })
+}
+
+// Runs the script that is made from the number, for the summary of its run and the actors that are stuck.
+fn tell_made_run(alloc: Global, n: u64) -> Result<Told, NoMemory>
+    ensures { IfOk result (λ told. IsMadeRun n told.stuck told.text.items) }
+{
+    let script = made_script(alloc, n)?;
+    let ran = run_script(alloc, script)?;
+    let mut text = summary_lines(alloc, &ran.journal, ran.machine.turns())?;
+    push_stuck_lines(ran.machine.script(), &ran.machine, &mut text)?;
+    Ok(Told {
+        journal: ran.journal,
+        stuck: ran.stuck,
+        text,
+    })
+}
+
+// The script that is made from the number.
+fn made_script(alloc: Global, n: u64) -> Result<Script, NoMemory>
+    ensures { IfOk result (Accepts (made_text n)) }
+{
+    made_texts_are_scripts();
+    scripts_have_no_fault();
+    let text = make_text(alloc, n)?;
+    match read_script(alloc, text.as_slice()) {
+        Ok(script) => Ok(script),
+        Err(ReadRefusal::NoMemory) => Err(NoMemory),
+        // What is made is a script.
+        Err(ReadRefusal::Fault(_)) => unreachable!(),
+    }
 }
 
 // Refuses a script: writes its fault.
@@ -174,9 +205,9 @@ fn refuse<K: Sink>(alloc: Global, sink: &mut K, fault: ScriptFault) -> Report
 fn run_and_write<K: Sink>(alloc: Global, sink: &mut K, script: Script) -> Report
     ensures statuses { HasRun result.status ⊎ (result.status ≡ 6) ⊎ (result.status ≡ 7) }
     ensures refusal { result.refusal ≡ None }
-    ensures finished { result.status ≡ 0 → (text : List ℕ) × IsRunOf script false result.journal.notes text
+    ensures finished { result.status ≡ 0 → (text : List ℕ) × IsToldRun script false result.journal.notes text
         × Appends (K.taken sink.old) (K.taken sink.new) text }
-    ensures stuck { result.status ≡ 4 → (text : List ℕ) × IsRunOf script true result.journal.notes text
+    ensures stuck { result.status ≡ 4 → (text : List ℕ) × IsToldRun script true result.journal.notes text
         × Appends (K.taken sink.old) (K.taken sink.new) text }
     ensures part { result.status ≡ 6
         → IsPartlyTold script result.journal.notes (K.taken sink.old) (K.taken sink.new) }
@@ -186,7 +217,7 @@ fn run_and_write<K: Sink>(alloc: Global, sink: &mut K, script: Script) -> Report
     ensures unwritten { result.status ≡ 7 → sink.new ≡ sink.old }
     ensures unrun { result.status ≡ 7 → result.journal.notes ≡ [] }
 {
-    let Ok(told) = run_script(alloc, script) else {
+    let Ok(told) = tell_run(alloc, script) else {
         return Report::unrun(alloc, 7, None);
     };
     let written = write_all(sink, told.text.as_slice()).is_ok();
@@ -195,6 +226,29 @@ fn run_and_write<K: Sink>(alloc: Global, sink: &mut K, script: Script) -> Report
         journal: told.journal,
         refusal: None,
     }
+}
+
+// Runs the script that is made from the number, and writes its summary and the actors that are stuck.
+fn make_and_write<K: Sink>(alloc: Global, sink: &mut K, n: u64) -> Report
+    ensures statuses { IsMadeStatus result.status }
+    ensures refusal { result.refusal ≡ None }
+    ensures journal { result.journal.notes ≡ [] }
+    ensures finished { result.status ≡ 0 → (text : List ℕ) × IsMadeRun n false text
+        × Appends (K.taken sink.old) (K.taken sink.new) text }
+    ensures stuck { result.status ≡ 4 → (text : List ℕ) × IsMadeRun n true text
+        × Appends (K.taken sink.old) (K.taken sink.new) text }
+    ensures part { result.status ≡ 6 → (stuck : Bool) × (text : List ℕ) × IsMadeRun n stuck text
+        × AppendsPart (K.taken sink.old) (K.taken sink.new) text }
+    ensures write_fault { result.status ≡ 6
+        → EndsInFault (K.faults sink.old) (K.faults sink.new) (K.faulted sink.new) }
+    ensures uncounted { (result.status ≡ 6 → ⊥) → K.faults sink.new ≡ K.faults sink.old }
+    ensures unwritten { result.status ≡ 7 → sink.new ≡ sink.old }
+{
+    let Ok(told) = tell_made_run(alloc, n) else {
+        return Report::unrun(alloc, 7, None);
+    };
+    let written = write_all(sink, told.text.as_slice()).is_ok();
+    Report::unrun(alloc, status_of(written, told.stuck), None)
 }
 
 // The status of a script that has run.
@@ -227,9 +281,10 @@ fn show_usage<K: Sink>(alloc: Global, sink: &mut K) -> Report
     Report::unrun(alloc, status, None)
 }
 
-/// What the program does. The words are those after its name, and the one command so far is `run`: it reads a
-/// script from the source, to its end or past the length of a script, runs it, and writes a line for each answer, and
-/// after these one for each actor that is stuck.
+/// What the program does. The words are those after its name: `run` reads a script from the source, to its end or past the
+/// length of a script, runs it, and writes a line for each answer, and after these one for each actor that is stuck;
+/// `make N` runs the script that is made from the number N, and writes four lines that count its answers, and after
+/// these one for each actor that is stuck. It leaves the source unread.
 ///
 /// The statuses: 0, the script ran and the sink took its whole text; 2, the words are no command; 3, the bytes are
 /// no script; 4, the same as 0, but that actors are stuck: they wait at the end of the run; 5, a read failed; 6, a
@@ -280,6 +335,23 @@ pub fn gup<S: Source, K: Sink>(
     // an unmap, a discard, a protect, a store, a pin or a move of the page; or where the slot was never filled.
     ensures stale { IsRun (map string_bytes words.now) → HasRun result.status
         → OfScript (S.remaining source.old) (λ script. AreStaleSeen script result.journal.notes) }
+
+    // `make N` runs the script that is made from N, and all that is said here of a script that has run is so of it. What the
+    // sink took is the summary of that run and, at status 4, the actors that are stuck at its end. The source is unread, and no
+    // script is refused.
+    ensures made { (n : ℕ) → IsMake (map string_bytes words.now) n → result.status ≡ 0
+        → (text : List ℕ) × IsMadeRun n false text × Appends (K.taken sink.old) (K.taken sink.new) text }
+    ensures made_stuck { (n : ℕ) → IsMake (map string_bytes words.now) n → result.status ≡ 4
+        → (text : List ℕ) × IsMadeRun n true text × Appends (K.taken sink.old) (K.taken sink.new) text }
+    ensures made_part { (n : ℕ) → IsMake (map string_bytes words.now) n → result.status ≡ 6
+        → (stuck : Bool) × (text : List ℕ) × IsMadeRun n stuck text
+        × AppendsPart (K.taken sink.old) (K.taken sink.new) text }
+    ensures made_statuses { (n : ℕ) → IsMake (map string_bytes words.now) n → IsMadeStatus result.status }
+    ensures made_complete { (n : ℕ) → IsMake (map string_bytes words.now) n
+        → (HasCause (K.faults sink.old) (K.faults sink.new) → ⊥) → HasRun result.status ⊎ (result.status ≡ 7) }
+    ensures made_unread { (n : ℕ) → IsMake (map string_bytes words.now) n → source.new ≡ source.old }
+    ensures made_unrun { (n : ℕ) → IsMake (map string_bytes words.now) n
+        → (result.journal.notes ≡ []) × (result.refusal ≡ None) }
 
     // Which statuses `run` has. Bytes that are a script give status 0, where all actors finish, or 4, where some are stuck,
     // where neither the source nor the sink has failed, unless memory runs out.
@@ -340,8 +412,11 @@ pub fn gup<S: Source, K: Sink>(
 {
     one_script();
     scripts_have_no_fault();
-    if !is_run(words) {
+    let Some(command) = command(words) else {
         return show_usage(alloc, sink);
+    };
+    if let Command::Make(n) = command {
+        return make_and_write(alloc, sink, n);
     }
     match read(alloc, source) {
         Ok(script) => run_and_write(alloc, sink, script),

@@ -1,7 +1,12 @@
 -- The script that is made from a number, as text: a fixed head, twenty rounds of drawn operations with two forks behind them, and
 -- drawn turns.
-use Rattle.std.specs.Prelude.{ℕ, ◌+◌, ◌==◌, nat_lt, if◌then◌else◌, List, ◌++◌, codes, decimal, zero, suc}
+use Rattle.std.specs.Prelude.{ℕ, ◌+◌, ◌==◌, nat_lt, Bool, true, false, if◌then◌else◌, List, [], ◌∷◌, ◌++◌, codes, decimal, zero, suc}
+use Rattle.std.specs.List.{join_with_byte}
+use Rattle.gup_base.specs.declared.entry.Zone.{Zone}
+use Rattle.gup_base.specs.declared.entry.Zone.TheVariants.{Movable, Normal}
 use Rattle.gup_spec_grammar.specs.Outline.{next_state, drawn}
+use Rattle.gup_spec_grammar.specs.Said.{Word, said_words, random_turns, Action, action_words, unmaps, discards, loads, stores, pins, gets, puts, forks, unpins, transfers, moves}
+use Rattle.gup_spec_grammar.specs.Spelling.{address}
 
 -- what is made so far: its text, where the generator stands, and how many handles rounds have made
 pub record Made : Type 0 where
@@ -9,12 +14,13 @@ pub record Made : Type 0 where
   pub state : ℕ
   pub handles : ℕ
 
--- words more, and a line more
-abbrev pub more : List ℕ → Made → Made
-more words made = record made { text = made.text ++ words }
+-- a line more, whose words have a space between each two
+abbrev pub line : List Word → Made → Made
+line words made = record made { text = made.text ++ (join_with_byte 32 words ++ codes "\n") }
 
-abbrev pub line : List ℕ → Made → Made
-line words = more (words ++ codes "\n")
+-- a line more, which gives this actor this to do
+abbrev pub on : (actor : Word) → Action → Made → Made
+on actor action = line (codes "on" ∷ actor ∷ action_words action)
 
 -- a number below this is drawn for what follows
 abbrev pub drawing : (below : ℕ) → (ℕ → Made → Made) → Made → Made
@@ -24,56 +30,63 @@ drawing below next made = next (drawn below (next_state made.state)) (record mad
 abbrev pub numbering : (ℕ → Made → Made) → Made → Made
 numbering next made = next (made.handles + 1) (record made { handles = made.handles + 1 })
 
+abbrev pub pin_name : (k : ℕ) → Word
+pin_name k = codes "f" ++ decimal k
+
+abbrev pub reference_name : (k : ℕ) → Word
+reference_name k = codes "g" ++ decimal k
+
 -- ---- the operations of a thread
 
-abbrev pub loads : (thread : List ℕ) → Made → Made
-loads thread = drawing 64 (λ page. drawing 512 (λ word.
-    line (codes "on " ++ thread ++ codes " load " ++ decimal page ++ codes "." ++ decimal word)))
+abbrev pub load_line : (thread : Word) → Made → Made
+load_line thread = drawing 64 (λ page. drawing 512 (λ word. on thread (loads (address page word))))
 
-abbrev pub stores : (thread : List ℕ) → Made → Made
-stores thread = drawing 64 (λ page. drawing 512 (λ word. drawing 1000 (λ value.
-    line (codes "on " ++ thread ++ codes " store " ++ decimal page ++ codes "." ++ decimal word ++ codes " " ++ decimal value))))
+abbrev pub store_line : (thread : Word) → Made → Made
+store_line thread =
+    drawing 64 (λ page. drawing 512 (λ word. drawing 1000 (λ value. on thread (stores (address page word) (decimal value)))))
 
 -- a page past the first eight, which the devices' pins have
-abbrev pub discards : (thread : List ℕ) → Made → Made
-discards thread = drawing 56 (λ page. line (codes "on " ++ thread ++ codes " discard " ++ decimal (8 + page) ++ codes " 1"))
+abbrev pub discard_line : (thread : Word) → Made → Made
+discard_line thread = drawing 56 (λ page. on thread (discards (decimal (8 + page)) (codes "1")))
 
-abbrev pub unmaps : (thread : List ℕ) → Made → Made
-unmaps thread = drawing 56 (λ page. line (codes "on " ++ thread ++ codes " unmap " ++ decimal (8 + page) ++ codes " 1"))
+abbrev pub unmap_line : (thread : Word) → Made → Made
+unmap_line thread = drawing 56 (λ page. on thread (unmaps (decimal (8 + page)) (codes "1")))
 
-abbrev pub pins : (thread : List ℕ) → Made → Made
-pins thread = numbering (λ k. drawing 60 (λ page. drawing 4 (λ n made.
-    line (codes "on " ++ thread ++ codes " unpin f" ++ decimal k)
-    (line (codes "on " ++ thread ++ codes " pinfast f" ++ decimal k ++ codes " " ++ decimal page ++ codes " " ++ decimal (1 + n) ++ codes " write") made))))
+-- a pin to write by a fast walk, and its unpin
+abbrev pub pin_lines : (thread : Word) → Made → Made
+pin_lines thread = numbering (λ k. drawing 60 (λ page. drawing 4 (λ n made.
+    on thread (unpins (pin_name k))
+    (on thread (pins true (pin_name k) (decimal page) (decimal (1 + n)) true false) made))))
 
-abbrev pub gets : (thread : List ℕ) → Made → Made
-gets thread = numbering (λ k. drawing 64 (λ page made.
-    line (codes "on " ++ thread ++ codes " put g" ++ decimal k)
-    (line (codes "on " ++ thread ++ codes " get g" ++ decimal k ++ codes " " ++ decimal page) made)))
+-- a reference that is got, and put back
+abbrev pub get_lines : (thread : Word) → Made → Made
+get_lines thread = numbering (λ k. drawing 64 (λ page made.
+    on thread (puts (reference_name k)) (on thread (gets (reference_name k) (decimal page)) made)))
 
-abbrev pub chosen : (thread : List ℕ) → (choice : ℕ) → Made → Made
+abbrev pub chosen : (thread : Word) → (choice : ℕ) → Made → Made
 chosen thread choice =
-    if nat_lt choice 2 then loads thread else if nat_lt choice 4 then stores thread else if choice == 4 then discards thread
-    else if choice == 5 then pins thread else if choice == 6 then gets thread else unmaps thread
+    if nat_lt choice 2 then load_line thread else if nat_lt choice 4 then store_line thread
+    else if choice == 4 then discard_line thread else if choice == 5 then pin_lines thread
+    else if choice == 6 then get_lines thread else unmap_line thread
 
-abbrev pub thread_lines : (thread : List ℕ) → Made → Made
+abbrev pub thread_lines : (thread : Word) → Made → Made
 thread_lines thread = drawing 8 (chosen thread)
 
 -- ---- those of the devices and the mover
 
-abbrev pub transfer_line : List ℕ → Made → Made
-transfer_line before = drawing 2040 (λ index. drawing 56 (λ slot. drawing 8 (λ n.
-    line (before ++ decimal index ++ codes " " ++ decimal slot ++ codes " " ++ decimal (1 + n)))))
+abbrev pub transfer_line : (device : Word) → (outward : Bool) → (handle : Word) → Made → Made
+transfer_line device outward handle = drawing 2040 (λ index. drawing 56 (λ slot. drawing 8 (λ n.
+    on device (transfers outward handle (decimal index) (decimal slot) (decimal (1 + n))))))
 
 abbrev pub first_device : Made → Made
-first_device = drawing 2 (λ way. transfer_line (if way == 0 then codes "on d1 out h1 " else codes "on d1 in h1 "))
+first_device = drawing 2 (λ way. transfer_line (codes "d1") (way == 0) (codes "h1"))
 
 abbrev pub second_device : Made → Made
-second_device = transfer_line (codes "on d2 out h2 ")
+second_device = transfer_line (codes "d2") true (codes "h2")
 
 abbrev pub move_line : Made → Made
 move_line = drawing 64 (λ page. drawing 2 (λ zone.
-    line (codes "on m move p " ++ decimal page ++ (if zone == 0 then codes " normal" else codes " movable"))))
+    on (codes "m") (moves (codes "p") (decimal page) (if zone == 0 then Normal else Movable))))
 
 -- ---- the whole
 
@@ -85,7 +98,7 @@ round made =
 -- behind the fifth round the first thread forks, and behind the tenth the second
 abbrev pub forks_behind : (round : ℕ) → Made → Made
 forks_behind k =
-    if k == 5 then line (codes "on t1 fork c1") else if k == 10 then line (codes "on t2 fork c2") else λ made. made
+    if k == 5 then on (codes "t1") (forks (codes "c1")) else if k == 10 then on (codes "t2") (forks (codes "c2")) else λ made. made
 
 unfoldable pub rounds : ℕ → Made → Made
 rounds zero made = made
@@ -95,4 +108,4 @@ abbrev pub head : List ℕ
 head = codes "gup 1\nframes 256 256 2048\nprocess p\nchild c1\nchild c2\nthread t1 p\nthread t2 p\nthread t3 c1\nthread t4 c2\ndevice d1 64\ndevice d2 64\nmover m\non t1 map 0 64 rw\non t1 pin h1 0 4 write\non t1 give h1 d1\non t1 pin h2 4 4 read\non t1 give h2 d2\non d1 take h1\non d2 take h2\n"
 
 abbrev pub made_text : (n : ℕ) → List ℕ
-made_text n = (line (codes "random " ++ decimal n ++ codes " 2000") (rounds 20 (record { text = head; state = n; handles = 0 }))).text
+made_text n = (line (said_words (random_turns (decimal n) (codes "2000"))) (rounds 20 (record { text = head; state = n; handles = 0 }))).text

@@ -1,0 +1,13 @@
+pub mod Cuts
+pub mod Texts
+pub mod Numbers
+pub mod Entries
+pub mod Forks
+pub mod Standing
+pub mod Good
+pub mod Operations
+pub mod Handles
+pub mod Rounds
+pub mod Head
+pub mod Ready
+pub mod Turns
