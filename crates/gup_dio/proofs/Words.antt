@@ -31,6 +31,10 @@ word_fits pages (part ∷ parts) k fit within =
     let rest : part.1 ≤ k → k - part.1 < words_of parts = λ behind. omega (arith, sum_by-cons (λ (x : Part). x.1) part parts) in
     at_part pages part parts k (at_most _ _ both.0) (λ behind. word_fits pages parts (k - part.1) both.1 (rest behind))
 
+pub index_fits : (pages slots : ℕ) (job : JobValue) (k : ℕ) → fits_in pages slots job ≡ true → k < words_of job.parts → word_at job.parts k < 512 * pages
+index_fits pages slots job k fit within =
+    word_fits pages job.parts k (both_so (has_words pages job.parts) (has_slots slots job.first_slot job.parts) fit).0 within
+
 -- and its slot is one of the store's
 pub slot_fits : (pages slots : ℕ) (job : JobValue) (k : ℕ) → fits_in pages slots job ≡ true → k < words_of job.parts → job.first_slot + k < slots
 slot_fits pages slots job k fit within =

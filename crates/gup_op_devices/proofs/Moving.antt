@@ -1,11 +1,9 @@
 -- What a word of a transfer makes of frames and a store is the turn's.
-use Rattle.std.proofs.Common.{◌≡◌, ℕ, ◌+◌, ◌*◌, ◌/◌, ◌%◌, ◌<◌, ◌≤◌, ◌==◌, Bool, true, false, cond, List, [], ◌∷◌, length, slice_get, slice_index, Option, Some, None, refl, sym, ap, ◌∙◌, subst, arith}
-use Rattle.std.specs.Prelude.{◌-◌, ◌&&◌, nat_lt, nat_le, not}
-use Rattle.std.proofs.lemmas.List.Sums.{sum_by-cons}
+use Rattle.std.proofs.Common.{◌≡◌, ℕ, ◌+◌, ◌/◌, ◌%◌, ◌<◌, ◌==◌, Bool, true, false, cond, List, [], ◌∷◌, length, slice_get, slice_index, Option, Some, None, refl, sym, ap, ◌∙◌, subst, arith}
 use Rattle.std.proofs.lemmas.Option.{get_or_from_slice_get}
 use Rattle.std.proofs.lemmas.Bool.Decides.{nat_tests}
 use Rattle.gup_base.specs.Parts.{Part, words_of, word_at}
-use Rattle.gup_plain.specs.Denial.{is_held_by, has_words, has_slots, transfer_denial, transfer_denial_by}
+use Rattle.gup_plain.specs.Denial.{is_held_by, transfer_denial, transfer_denial_by}
 use Rattle.gup_plain.specs.Put.{put}
 use Rattle.gup_plain.specs.State as plain
 use Rattle.gup_plain.specs.declared.answer.Answer.{Answer}
@@ -31,7 +29,7 @@ use Rattle.gup_op_pins.specs.Pins.{frames_in}
 use Rattle.gup_handles.specs.Shows.{IsShown, ShowsHandles}
 use Rattle.gup_op_pins.specs.Held.{ShowsStore, HeldView, ShowsHeld, slots_in}
 use Rattle.gup_dio.specs.Job.{job_of, fits_in}
-use Rattle.gup_dio.proofs.Words.{slot_fits, word_fits}
+use Rattle.gup_dio.proofs.Words.{slot_fits}
 use Rattle.gup_op_devices.specs.Transfers.{IsWhole, HasMoved, IsMoved, IsFound, is_pin_of, writes_in, refusal_in, words_in}
 
 abbrev pub view : FramesValue → HandlesValue → Option (List ℕ) → HeldView

@@ -1,5 +1,5 @@
 -- What a word of a transfer does to a pin's frames and to the store of its device, and what refuses it.
-use Rattle.std.specs.Prelude.{◌≡◌, ℕ, ◌+◌, ◌/◌, ◌%◌, ◌==◌, ◌&&◌, nat_le, Bool, true, false, if◌then◌else◌, List, [], length, slice_get, slice_index, Option, Some, None}
+use Rattle.std.specs.Prelude.{◌≡◌, ℕ, ◌+◌, ◌/◌, ◌%◌, ◌==◌, Bool, true, false, if◌then◌else◌, List, [], length, slice_get, slice_index, Option, Some, None}
 use Rattle.gup_base.specs.Parts.{Part, words_of, word_at}
 use Rattle.gup_plain.specs.Denial.{is_held_by, transfer_denial_by}
 use Rattle.gup_plain.specs.Event.{words}

@@ -1,5 +1,5 @@
 //! Transfers of words between the pages of a pin and the store of a device.
-ghost use Rattle.std.specs.Prelude.{◌≡◌, ℕ, ◌+◌, ◌==◌, ◌%◌, ◌≤◌, ◌<◌, IfOk, IfErr, OnOk, Some, None};
+ghost use Rattle.std.specs.Prelude.{◌≡◌, ℕ, ◌+◌, ◌*◌, ◌/◌, ◌%◌, ◌==◌, ◌≤◌, ◌<◌, length, slice_get, IfOk, IfErr, OnOk, Some, None};
 ghost use Rattle.gup_base.specs.Parts.{words_of, word_at};
 ghost use Rattle.gup_plain.specs.declared.answer.Answer.{Answer as AnswerValue};
 ghost use Rattle.gup_frames.specs.Frames.{frames_of, IsFrame};
@@ -135,9 +135,18 @@ fn find(
     let place = job.at(far);
     Ok(Found {
         place,
-        frame: pages[place.page()],
+        frame: frame_at(pages, place),
         last: far + 1 == u16::from(job.words()),
     })
+}
+
+// The frame that has the word.
+#[inline]
+fn frame_at(pages: &[FrameNo], place: Place) -> FrameNo
+    requires { place.index < 512 * length pages.now }
+    ensures { slice_get pages.now (place.index / 512) ≡ Some result }
+{
+    pages[place.page()]
 }
 
 // Moves a word of the frame out into its slot, or in from there.
