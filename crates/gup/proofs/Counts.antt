@@ -12,24 +12,8 @@ use Rattle.gup_plain.specs.declared.event.PlainEvent.{PlainEvent}
 use Rattle.gup_plain.specs.declared.note.What.{What}
 use Rattle.gup_plain.specs.declared.note.What.TheVariants.{Silent, Idle, Wait, Event, Done}
 use Rattle.gup_lines.specs.Text.{answer_text, outcomes_from, outcomes_of, words_after}
+use Rattle.gup.specs.Counts.{is_ok, answers_in, oks_in}
 use Rattle.gup.specs.Summary.{says_ok}
-
--- which answers say `ok`
-abbrev pub is_ok : Answer → Bool
-is_ok answers.Plain = true
-is_ok (answers.Value value) = true
-is_ok (answers.Pinned pages) = true
-is_ok (answers.Short got wanted cause) = true
-is_ok answers.Words = true
-is_ok answer = false
-
-abbrev pub answers_in : What → ℕ
-answers_in (Done answer) = 1
-answers_in what = 0
-
-abbrev pub oks_in : What → ℕ
-oks_in (Done answer) = cond (is_ok answer) 1 0
-oks_in what = 0
 
 -- whatever words were moved
 ok_said : (answer : Answer) (words : List ℕ) → bytes_eq (take 2 (answer_text answer words)) (codes "ok") ≡ is_ok answer

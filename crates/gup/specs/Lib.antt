@@ -1,4 +1,5 @@
 pub mod Cause
 pub mod Stuck
 pub mod Summary
+pub mod Counts
 pub mod Report

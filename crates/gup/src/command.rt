@@ -14,7 +14,7 @@ pub enum Command {
 }
 
 /// The command that the words are, if they are one. A number has no sign and no zero in front, and is below 2^64.
-pub fn command(words: &[String]) -> Option<Command>
+pub fn command_of(words: &[String]) -> Option<Command>
     ensures found { IfSome result (IsAsked (map string_bytes words.now)) }
     ensures none { result ≡ None → IsCommand (map string_bytes words.now) → ⊥ }
 {

@@ -2,7 +2,7 @@
 ghost use Rattle.std.specs.Prelude.{◌≡◌, ℕ, ◌+◌, ◌<◌, ◌%◌, ◌^◌, ◌++◌, List, length, count_by, codes, IfOk, OnOk};
 ghost use Rattle.gup_lines.specs.Text.{outcomes_of};
 ghost use Rattle.gup.specs.Summary.{says_ok, word_of, word_in, words_sum, counted, summary_lines};
-ghost use Rattle.gup.proofs.Counts.{is_ok, answers_in, oks_in};
+ghost use Rattle.gup.specs.Counts.{is_ok, answers_in, oks_in};
 
 use crate::text::push_text;
 use gup_base::NoMemory;

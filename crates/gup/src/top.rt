@@ -23,7 +23,7 @@ ghost use Rattle.gup_make.specs.Made.{made_text};
 ghost use Rattle.gup_spec_grammar.specs.Grammar.{Accepts};
 ghost use Rattle.gup_spec_turns.specs.Cause.{WaitsForBirthOrPin};
 
-use crate::command::{Command, command};
+use crate::command::{Command, command_of};
 use crate::summary::summary_lines;
 use crate::text::{journal_text, push_stuck_lines, refusal_line};
 use gup_base::NoMemory;
@@ -171,7 +171,7 @@ fn made_script(alloc: Global, n: u64) -> Result<Script, NoMemory>
     scripts_have_no_fault();
     let text = make_text(alloc, n)?;
     match read_script(alloc, text.as_slice()) {
-        Ok(script) => Ok(script),
+        Ok(made) => Ok(made),
         Err(ReadRefusal::NoMemory) => Err(NoMemory),
         // What is made is a script.
         Err(ReadRefusal::Fault(_)) => unreachable!(),
@@ -412,7 +412,7 @@ pub fn gup<S: Source, K: Sink>(
 {
     one_script();
     scripts_have_no_fault();
-    let Some(command) = command(words) else {
+    let Some(command) = command_of(words) else {
         return show_usage(alloc, sink);
     };
     if let Command::Make(n) = command {
