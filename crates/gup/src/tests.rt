@@ -326,6 +326,26 @@ const REFUSALS: [(&str, u32, Reason, &str); 7] = [
     ),
 ];
 
+/// Numbers, with the summaries of the runs of the scripts that are made from them. By `bench/made/script`, which makes the same text, and
+/// `bench/plain`, whose turns were counted, and whose answers to loads and transfers were added up. Few made scripts read a word that was
+/// written.
+const MADE: [(&str, &str); 11] = [
+    ("0", "answers 165\nok 140\nturns 10216\nwords 0\n"),
+    ("1", "answers 166\nok 147\nturns 8369\nwords 0\n"),
+    ("2", "answers 172\nok 150\nturns 11313\nwords 0\n"),
+    ("3", "answers 166\nok 143\nturns 10261\nwords 0\n"),
+    ("4", "answers 172\nok 145\nturns 10284\nwords 0\n"),
+    ("5", "answers 163\nok 140\nturns 10227\nwords 0\n"),
+    ("6", "answers 169\nok 148\nturns 10249\nwords 0\n"),
+    ("7", "answers 166\nok 143\nturns 10252\nwords 0\n"),
+    ("8", "answers 171\nok 151\nturns 10260\nwords 0\n"),
+    ("110", "answers 172\nok 147\nturns 10315\nwords 248\n"),
+    (
+        "18446744073709551615",
+        "answers 167\nok 145\nturns 10215\nwords 0\n",
+    ),
+];
+
 /// Gives one byte a read, and fails at the read that has number `fails`, from 1.
 #[derive(Drop)]
 struct ByteSource {
@@ -425,10 +445,17 @@ fn first_run(rt: HostRuntime) -> Result<(), Fail> {
 
 #[test]
 fn words_that_are_no_command(rt: HostRuntime) -> Result<(), Fail> {
-    let words: [&[&str]; 6] = [
+    let words: [&[&str]; 13] = [
         &[],
         &["run", "slow"],
+        &["make"],
         &["make", "01"],
+        &["make", "+1"],
+        &["make", "-1"],
+        &["make", ""],
+        &["make", "18446744073709551616"],
+        &["make", "1", "1"],
+        &["1", "make"],
         &["--help"],
         &["Run"],
         &[""],
@@ -455,6 +482,34 @@ fn examples(rt: HostRuntime) -> Result<(), Fail> {
     for (script, status, text) in EXAMPLES {
         let report = expect(&rt, rt.alloc(), &["run"], script, status, text)?;
         assert_eq!(rt; report.refusal, None, "{script}");
+    }
+    Ok(())
+}
+
+/// Two runs give the same bytes.
+#[test]
+fn made_scripts(rt: HostRuntime) -> Result<(), Fail> {
+    for (n, text) in MADE {
+        for _ in 0..2 {
+            let report = expect(&rt, rt.alloc(), &["make", n], FIRST, 0, text)?;
+            assert!(rt; report.journal.notes().is_empty());
+            assert_eq!(rt; report.refusal, None);
+        }
+    }
+    Ok(())
+}
+
+/// No read is made for a made script, and a write that fails leaves the beginning of its summary.
+#[test]
+fn made_scripts_and_faults(rt: HostRuntime) -> Result<(), Fail> {
+    let words = owned(rt.alloc(), &["make", "1"])?;
+    for (room, status, text) in [(99, 0, MADE[1].1), (11, 6, "answers 166")] {
+        let reads = [1].to_vec(rt.alloc())?;
+        let mut source = MemSource::new(FIRST.as_bytes().to_vec(rt.alloc())?, reads);
+        let mut sink = MemSink::with_room(rt.alloc(), room, Vec::new(rt.alloc()))?;
+        let report = gup(rt.alloc(), words.as_slice(), &mut source, &mut sink);
+        assert_eq!(rt; report.status, status);
+        assert_eq!(rt; sink.bytes(), text.as_bytes());
     }
     Ok(())
 }
