@@ -1,8 +1,7 @@
 -- The script that is made from a number, as text: a fixed head, twenty rounds of drawn operations with two forks behind them, and
 -- drawn turns.
-use Rattle.std.specs.Prelude.{ℕ, ◌+◌, ◌==◌, nat_lt, Bool, true, false, if◌then◌else◌, List, [], ◌∷◌, ◌++◌, codes, decimal, zero, suc}
+use Rattle.std.specs.Prelude.{ℕ, ◌+◌, ◌==◌, nat_lt, Bool, true, false, if◌then◌else◌, List, ◌∷◌, ◌++◌, codes, decimal, zero, suc}
 use Rattle.std.specs.List.{join_with_byte}
-use Rattle.gup_base.specs.declared.entry.Zone.{Zone}
 use Rattle.gup_base.specs.declared.entry.Zone.TheVariants.{Movable, Normal}
 use Rattle.gup_spec_grammar.specs.Outline.{next_state, drawn}
 use Rattle.gup_spec_grammar.specs.Said.{Word, said_words, random_turns, Action, action_words, unmaps, discards, loads, stores, pins, gets, puts, forks, unpins, transfers, moves}

@@ -2,5 +2,6 @@
 #![tactic(auto)]
 
 mod maker;
+mod word;
 
 pub use maker::make_text;

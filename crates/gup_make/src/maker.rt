@@ -1,8 +1,12 @@
 //! Writes the made script line by line.
-ghost use Rattle.std.specs.Prelude.{◌≡◌, ◌==◌, if◌then◌else◌, ◌≤◌, ◌<◌, ◌+◌, ◌++◌, ◌^◌, codes, decimal, IfOk, OnOk};
+ghost use Rattle.std.specs.Prelude.{◌≡◌, ◌==◌, if◌then◌else◌, ◌<◌, ◌+◌, ◌∷◌, map, codes, decimal, IfOk, OnOk};
 ghost use Rattle.gup_spec_grammar.specs.Outline.{next_state, drawn};
-ghost use Rattle.gup_make.specs.Made.{Made, more, line, loads, stores, discards, unmaps, pins, gets, chosen, thread_lines, transfer_line, first_device, second_device, move_line, round, forks_behind, rounds, head, made_text};
+ghost use Rattle.gup_base.specs.declared.entry.Zone.TheVariants.{Movable, Normal};
+ghost use Rattle.gup_spec_grammar.specs.Said.{transfer_word, zone_word};
+ghost use Rattle.gup_make.specs.Made.{Made, line, load_line, store_line, discard_line, unmap_line, pin_lines, get_lines, thread_lines, transfer_line, first_device, move_line, round, forks_behind, rounds, head, made_text};
+ghost use Rattle.gup_make.specs.Written.{more, spelled};
 
+use crate::word::Word::{self, Address, Name, Number, Text};
 use gup_base::NoMemory;
 use itoa::Buffer;
 use std::alloc::Global;
@@ -26,7 +30,7 @@ pub fn make_text(alloc: Global, n: u64) -> Result<Vec<u8>, NoMemory>
 {
     let mut maker = Maker::new(alloc, n)?;
     maker.rounds()?;
-    maker.random_line(n)?;
+    maker.line("random", &[Number(n), Text("2000")])?;
     Ok(maker.text)
 }
 
@@ -84,142 +88,106 @@ impl Maker {
         self.text(buffer.format(n))
     }
 
-    // Begins a line of an operation, whose word has the spaces around it.
-    #[tactic(auto, using(crate::proofs::Lines::lines))]
-    fn on(&mut self, actor: &str, operation: &str) -> Result<(), NoMemory>
-        ensures { OnOk result (self.new ≡ more (codes "on " ++ actor.now ++ operation.now) self.old) }
+    fn word(&mut self, word: &Word) -> Result<(), NoMemory>
+        ensures { OnOk result (self.new ≡ more (spelled word.now) self.old) }
     {
-        self.text("on ")?;
-        self.text(actor)?;
-        self.text(operation)
+        match word {
+            Text(text) => self.text(text),
+            Number(n) => self.number(*n),
+            Name(letter, k) => {
+                self.text(letter)?;
+                self.number(*k)
+            }
+            Address(page, word) => {
+                self.number(*page)?;
+                self.text(".")?;
+                self.number(*word)
+            }
+        }
     }
 
-    fn load(&mut self, thread: &str) -> Result<(), NoMemory>
-        ensures { OnOk result (self.new ≡ loads thread.now self.old) }
+    // A line of this word and those behind it.
+    #[tactic(auto, using(crate::proofs::Lines::line_written))]
+    fn line(&mut self, first: &str, words: &[Word]) -> Result<(), NoMemory>
+        ensures { OnOk result (self.new ≡ line (first.now ∷ map spelled words.now) self.old) }
     {
-        let page = self.draw(64);
-        let word = self.draw(512);
-        self.load_line(thread, page, word)
-    }
-
-    #[tactic(auto, using(crate::proofs::Lines::lines))]
-    fn load_line(&mut self, thread: &str, page: u64, word: u64) -> Result<(), NoMemory>
-        ensures { OnOk result (self.new ≡ line (codes "on " ++ thread.now ++ codes " load "
-            ++ decimal page ++ codes "." ++ decimal word) self.old) }
-    {
-        self.on(thread, " load ")?;
-        self.number(page)?;
-        self.text(".")?;
-        self.number(word)?;
+        self.text(first)?;
+        for word in words {
+            self.text(" ")?;
+            self.word(word)?;
+        }
         self.text("\n")
     }
 
+    // The line that gives the actor to do what these words say.
+    fn on(&mut self, actor: &str, words: &[Word]) -> Result<(), NoMemory>
+        ensures { OnOk result (self.new ≡ line (codes "on" ∷ actor.now ∷ map spelled words.now) self.old) }
+    {
+        self.text("on ")?;
+        self.line(actor, words)
+    }
+
+    fn load(&mut self, thread: &str) -> Result<(), NoMemory>
+        ensures { OnOk result (self.new ≡ load_line thread.now self.old) }
+    {
+        let page = self.draw(64);
+        let word = self.draw(512);
+        self.on(thread, &[Text("load"), Address(page, word)])
+    }
+
     fn store(&mut self, thread: &str) -> Result<(), NoMemory>
-        ensures { OnOk result (self.new ≡ stores thread.now self.old) }
+        ensures { OnOk result (self.new ≡ store_line thread.now self.old) }
     {
         let page = self.draw(64);
         let word = self.draw(512);
         let value = self.draw(1000);
-        self.store_line(thread, page, word, value)
-    }
-
-    #[tactic(auto, using(crate::proofs::Lines::lines))]
-    fn store_line(&mut self, thread: &str, page: u64, word: u64, value: u64) -> Result<(), NoMemory>
-        ensures { OnOk result (self.new ≡ line (codes "on " ++ thread.now ++ codes " store "
-            ++ decimal page ++ codes "." ++ decimal word ++ codes " " ++ decimal value) self.old) }
-    {
-        self.on(thread, " store ")?;
-        self.number(page)?;
-        self.text(".")?;
-        self.number(word)?;
-        self.text(" ")?;
-        self.number(value)?;
-        self.text("\n")
+        self.on(thread, &[Text("store"), Address(page, word), Number(value)])
     }
 
     fn discard(&mut self, thread: &str) -> Result<(), NoMemory>
-        ensures { OnOk result (self.new ≡ discards thread.now self.old) }
+        ensures { OnOk result (self.new ≡ discard_line thread.now self.old) }
     {
         let page = self.draw(56);
-        self.page_line(thread, " discard ", 8 + page)
+        self.on(thread, &[Text("discard"), Number(8 + page), Text("1")])
     }
 
     fn unmap(&mut self, thread: &str) -> Result<(), NoMemory>
-        ensures { OnOk result (self.new ≡ unmaps thread.now self.old) }
+        ensures { OnOk result (self.new ≡ unmap_line thread.now self.old) }
     {
         let page = self.draw(56);
-        self.page_line(thread, " unmap ", 8 + page)
-    }
-
-    // The line of what is done to one page.
-    #[tactic(auto, using(crate::proofs::Lines::lines))]
-    fn page_line(&mut self, thread: &str, operation: &str, page: u64) -> Result<(), NoMemory>
-        ensures { OnOk result (self.new ≡ line (codes "on " ++ thread.now ++ operation.now ++ decimal page ++ codes " 1") self.old) }
-    {
-        self.on(thread, operation)?;
-        self.number(page)?;
-        self.text(" 1")?;
-        self.text("\n")
+        self.on(thread, &[Text("unmap"), Number(8 + page), Text("1")])
     }
 
     // A pin by a fast walk, and its unpin.
     fn pin(&mut self, thread: &str) -> Result<(), NoMemory>
         requires { self.old.handles < 1000 }
-        ensures { OnOk result (self.new ≡ pins thread.now self.old) }
+        ensures { OnOk result (self.new ≡ pin_lines thread.now self.old) }
     {
-        let handle = self.next_handle();
+        let k = self.next_handle();
         let page = self.draw(60);
         let n = self.draw(4);
-        self.pin_line(thread, handle, page, 1 + n)?;
-        self.handle_line(thread, " unpin f", handle)
-    }
-
-    #[tactic(auto, using(crate::proofs::Lines::lines))]
-    fn pin_line(&mut self, thread: &str, handle: u64, page: u64, n: u64) -> Result<(), NoMemory>
-        ensures { OnOk result (self.new ≡ line (codes "on " ++ thread.now ++ codes " pinfast f" ++ decimal handle
-            ++ codes " " ++ decimal page ++ codes " " ++ decimal n ++ codes " write") self.old) }
-    {
-        self.on(thread, " pinfast f")?;
-        self.number(handle)?;
-        self.text(" ")?;
-        self.number(page)?;
-        self.text(" ")?;
-        self.number(n)?;
-        self.text(" write")?;
-        self.text("\n")
+        self.on(
+            thread,
+            &[
+                Text("pinfast"),
+                Name("f", k),
+                Number(page),
+                Number(1 + n),
+                Text("write"),
+            ],
+        )?;
+        self.on(thread, &[Text("unpin"), Name("f", k)])
     }
 
     // A reference that is got and put back.
     fn get(&mut self, thread: &str) -> Result<(), NoMemory>
         requires { self.old.handles < 1000 }
-        ensures { OnOk result (self.new ≡ gets thread.now self.old) }
+        ensures { OnOk result (self.new ≡ get_lines thread.now self.old) }
     {
-        let handle = self.next_handle();
+        let k = self.next_handle();
         let page = self.draw(64);
-        self.get_line(thread, handle, page)?;
-        self.handle_line(thread, " put g", handle)
-    }
-
-    #[tactic(auto, using(crate::proofs::Lines::lines))]
-    fn get_line(&mut self, thread: &str, handle: u64, page: u64) -> Result<(), NoMemory>
-        ensures { OnOk result (self.new ≡ line (codes "on " ++ thread.now ++ codes " get g" ++ decimal handle
-            ++ codes " " ++ decimal page) self.old) }
-    {
-        self.on(thread, " get g")?;
-        self.number(handle)?;
-        self.text(" ")?;
-        self.number(page)?;
-        self.text("\n")
-    }
-
-    // The line of what is done with a handle.
-    #[tactic(auto, using(crate::proofs::Lines::lines))]
-    fn handle_line(&mut self, thread: &str, operation: &str, handle: u64) -> Result<(), NoMemory>
-        ensures { OnOk result (self.new ≡ line (codes "on " ++ thread.now ++ operation.now ++ decimal handle) self.old) }
-    {
-        self.on(thread, operation)?;
-        self.number(handle)?;
-        self.text("\n")
+        self.on(thread, &[Text("get"), Name("g", k), Number(page)])?;
+        self.on(thread, &[Text("put"), Name("g", k)])
     }
 
     // The number of a handle more, from 1.
@@ -247,34 +215,30 @@ impl Maker {
         }
     }
 
-    // A transfer of words, whose line begins so.
-    fn transfer(&mut self, before: &str) -> Result<(), NoMemory>
-        ensures { OnOk result (self.new ≡ transfer_line before.now self.old) }
+    // A transfer of words.
+    fn transfer(&mut self, device: &str, outward: bool, handle: &str) -> Result<(), NoMemory>
+        ensures { OnOk result (self.new ≡ transfer_line device.now outward handle.now self.old) }
     {
         let index = self.draw(2040);
         let slot = self.draw(56);
         let n = self.draw(8);
-        self.words_line(before, index, slot, 1 + n)
-    }
-
-    #[tactic(auto, using(crate::proofs::Lines::lines))]
-    fn words_line(&mut self, before: &str, index: u64, slot: u64, n: u64) -> Result<(), NoMemory>
-        ensures { OnOk result (self.new ≡ line (before.now ++ decimal index ++ codes " " ++ decimal slot ++ codes " " ++ decimal n) self.old) }
-    {
-        self.text(before)?;
-        self.number(index)?;
-        self.text(" ")?;
-        self.number(slot)?;
-        self.text(" ")?;
-        self.number(n)?;
-        self.text("\n")
+        self.on(
+            device,
+            &[
+                Text(transfer_word(outward)),
+                Text(handle),
+                Number(index),
+                Number(slot),
+                Number(1 + n),
+            ],
+        )
     }
 
     fn first_device(&mut self) -> Result<(), NoMemory>
         ensures { OnOk result (self.new ≡ first_device self.old) }
     {
         let way = self.draw(2);
-        self.transfer(first_words(way))
+        self.transfer("d1", way == 0, "h1")
     }
 
     fn move_page(&mut self) -> Result<(), NoMemory>
@@ -282,16 +246,10 @@ impl Maker {
     {
         let page = self.draw(64);
         let zone = self.draw(2);
-        self.zone_line(page, zone_words(zone))
-    }
-
-    fn zone_line(&mut self, page: u64, zone: &str) -> Result<(), NoMemory>
-        ensures { OnOk result (self.new ≡ line (codes "on m move p " ++ decimal page ++ zone.now) self.old) }
-    {
-        self.text("on m move p ")?;
-        self.number(page)?;
-        self.text(zone)?;
-        self.text("\n")
+        self.on(
+            "m",
+            &[Text("move"), Text("p"), Number(page), Text(zone_word(zone))],
+        )
     }
 
     fn rounds(&mut self) -> Result<(), NoMemory>
@@ -305,16 +263,6 @@ impl Maker {
         Ok(())
     }
 
-    #[tactic(auto, using(crate::proofs::Lines::lines))]
-    fn random_line(&mut self, n: u64) -> Result<(), NoMemory>
-        ensures { OnOk result (self.new ≡ line (codes "random " ++ decimal n ++ codes " 2000") self.old) }
-    {
-        self.text("random ")?;
-        self.number(n)?;
-        self.text(" 2000")?;
-        self.text("\n")
-    }
-
     fn round(&mut self) -> Result<(), NoMemory>
         requires { self.old.handles < 900 }
         ensures { OnOk result (self.new ≡ round self.old) }
@@ -324,7 +272,7 @@ impl Maker {
         self.thread("t3")?;
         self.thread("t4")?;
         self.first_device()?;
-        self.transfer("on d2 out h2 ")?;
+        self.transfer("d2", true, "h2")?;
         self.move_page()
     }
 
@@ -333,27 +281,22 @@ impl Maker {
         ensures { OnOk result (self.new ≡ forks_behind k self.old) }
     {
         match k {
-            5 => self.text("on t1 fork c1\n"),
-            10 => self.text("on t2 fork c2\n"),
+            5 => self.on("t1", &[Text("fork"), Text("c1")]),
+            10 => self.on("t2", &[Text("fork"), Text("c2")]),
             _ => Ok(()),
         }
     }
 }
 
-// How a line of the first device begins, by what was drawn.
-fn first_words(way: u64) -> &'static str
-    ensures { result.now ≡ (if way == 0 then codes "on d1 out h1 " else codes "on d1 in h1 ") }
+fn transfer_word(outward: bool) -> &'static str
+    ensures { result.now ≡ transfer_word outward }
 {
-    if way == 0 {
-        "on d1 out h1 "
-    } else {
-        "on d1 in h1 "
-    }
+    if outward { "out" } else { "in" }
 }
 
 // The zone of a move, by what was drawn.
-fn zone_words(zone: u64) -> &'static str
-    ensures { result.now ≡ (if zone == 0 then codes " normal" else codes " movable") }
+fn zone_word(zone: u64) -> &'static str
+    ensures { result.now ≡ zone_word (if zone == 0 then Normal else Movable) }
 {
-    if zone == 0 { " normal" } else { " movable" }
+    if zone == 0 { "normal" } else { "movable" }
 }
