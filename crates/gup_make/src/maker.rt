@@ -23,8 +23,8 @@ const HEAD: &str =
 
 /// The text that is made from the number, the same for the same number: two processes that fork from a first one, four threads that
 /// load, store, discard, unmap, pin and take references, two devices that move words of pins which last, and a mover; its turns are
-/// drawn from the number. That it is a script is tested of some numbers, and not said here. The recipe is this project's own, and
-/// stands in docs/SCRIPT.md. `NoMemory` where the text finds none.
+/// drawn from the number. It is a script whatever the number, as `gup_law_made` proves. The recipe is this project's own, and stands in
+/// docs/SCRIPT.md. `NoMemory` where the text finds none.
 pub fn make_text(alloc: Global, n: u64) -> Result<Vec<u8>, NoMemory>
     ensures { IfOk result (λ text. text.items ≡ made_text n) }
 {
