@@ -10,7 +10,7 @@ use Rattle.gup_spec_journal.specs.Place.{has_finished, ops_of, doer_of}
 use Rattle.gup_spec_turns.specs.Cause.{HaveFinished, WaitsForBirthOrPin}
 use Rattle.gup_spec_turns.specs.Run.{RunState, op_in, waiting_with, waiting_in, is_ready, can_go, IsCoreRun}
 use Rattle.gup_lines.specs.Text.{NamesWaiting, text_of}
-use Rattle.gup.specs.Report.{HasRun, IsRunOf, IsEnd}
+use Rattle.gup.specs.Report.{HasRun, IsRunOf, IsToldRun, IsEnd}
 use Rattle.gup.specs.Stuck.{IsFinishedRun, IsStuckRun, AreWaiting, stuck_of, stuck_lines, run_text}
 
 -- an actor that has finished has no operation left, and one that hasn't has one
@@ -36,6 +36,10 @@ all_wait script end stays named a below left =
     let found = unready_waits script end a (op_in script end a) (waiting_in script end a) refl refl left (stays a below) in
     (found.0, found.1, named a found.0 found.1)
 
+-- who waits there waits for a process or for a pin
+abbrev pub WaitsSo : ScriptValue → RunState → Type 0
+WaitsSo s end = (a : ℕ) (waiting : Waiting) → waiting_in s end a ≡ Some waiting → WaitsForBirthOrPin s waiting
+
 -- lines
 
 pub names_process : (script : ScriptValue) (w : Waiting) → WaitsForBirthOrPin script w → NamesWaiting script w
@@ -56,28 +60,28 @@ finished_text script notes end finished =
     ap (λ (l : List ℕ). text_of script notes ++ l) (none_stuck script end (length script.actors) (omega arith) finished) ∙ append-nil (text_of script notes)
 
 -- what is so of a script that has run is so whether actors are stuck or not
-abbrev pub IsToldRun : ScriptValue → List NoteValue → (stuck : Bool) → (List ℕ → Type 0) → Type 0
-IsToldRun script notes stuck IsWritten = (text : List ℕ) × IsRunOf script stuck notes text × IsWritten text
+abbrev pub IsWrittenRun : ScriptValue → List NoteValue → (stuck : Bool) → (List ℕ → Type 0) → Type 0
+IsWrittenRun script notes stuck IsWritten = (text : List ℕ) × IsToldRun script stuck notes text × IsWritten text
 
-pub ran : (script : ScriptValue) (notes : List NoteValue) (status : ℕ) (IsWritten : List ℕ → Type 0) (P : Type 0) → (status ≡ 0 → IsToldRun script notes false IsWritten) → (status ≡ 4 → IsToldRun script notes true IsWritten) → ((stuck : Bool) (text : List ℕ) → IsRunOf script stuck notes text → P) → HasRun status → P
-ran script notes status IsWritten P finished stuck each (inl zero_is) = let told = finished zero_is in each false told.0 told.1
-ran script notes status IsWritten P finished stuck each (inr four_is) = let told = stuck four_is in each true told.0 told.1
+pub ran : (script : ScriptValue) (notes : List NoteValue) (status : ℕ) (IsWritten : List ℕ → Type 0) (P : Type 0) → (status ≡ 0 → IsWrittenRun script notes false IsWritten) → (status ≡ 4 → IsWrittenRun script notes true IsWritten) → ((stuck : Bool) (end : RunState) → IsRunOf script stuck notes end → P) → HasRun status → P
+ran script notes status IsWritten P finished stuck each (inl zero_is) = let told = finished zero_is in each false told.1.0 told.1.1
+ran script notes status IsWritten P finished stuck each (inr four_is) = let told = stuck four_is in each true told.1.0 told.1.1
 
-pub finished_written : (script : ScriptValue) (notes : List NoteValue) (IsWritten : List ℕ → Type 0) → IsToldRun script notes false IsWritten → IsWritten (text_of script notes)
-finished_written script notes IsWritten told = subst IsWritten (told.1.text_is ∙ finished_text script notes told.1.end told.1.ends) told.2
+pub finished_written : (script : ScriptValue) (notes : List NoteValue) (IsWritten : List ℕ → Type 0) → IsWrittenRun script notes false IsWritten → IsWritten (text_of script notes)
+finished_written script notes IsWritten told = subst IsWritten (told.1.2 ∙ finished_text script notes told.1.0 told.1.1.ends) told.2
 
-pub stuck_written : (script : ScriptValue) (notes : List NoteValue) (IsWritten : List ℕ → Type 0) → IsToldRun script notes true IsWritten → (end : RunState) × IsCoreRun script notes end × IsWritten (run_text script notes end)
-stuck_written script notes IsWritten told = (told.1.end, told.1.core, subst IsWritten told.1.text_is told.2)
+pub stuck_written : (script : ScriptValue) (notes : List NoteValue) (IsWritten : List ℕ → Type 0) → IsWrittenRun script notes true IsWritten → (end : RunState) × IsCoreRun script notes end × IsWritten (run_text script notes end)
+stuck_written script notes IsWritten told = (told.1.0, told.1.1.core, subst IsWritten told.1.2 told.2)
 
-pub finished_run : (script : ScriptValue) (notes : List NoteValue) (IsWritten : List ℕ → Type 0) → IsToldRun script notes false IsWritten → IsFinishedRun script notes
-finished_run script notes IsWritten told = (told.1.end, told.1.core, told.1.ends)
+pub finished_run : (script : ScriptValue) (notes : List NoteValue) (IsWritten : List ℕ → Type 0) → IsWrittenRun script notes false IsWritten → IsFinishedRun script notes
+finished_run script notes IsWritten told = (told.1.0, told.1.1.core, told.1.1.ends)
 
-pub stuck_run : (script : ScriptValue) (notes : List NoteValue) (IsWritten : List ℕ → Type 0) → IsToldRun script notes true IsWritten → IsStuckRun script notes
-stuck_run script notes IsWritten told = (told.1.end, told.1.core, told.1.ends, told.1.waits)
+pub stuck_run : (script : ScriptValue) (notes : List NoteValue) (IsWritten : List ℕ → Type 0) → IsWrittenRun script notes true IsWritten → IsStuckRun script notes
+stuck_run script notes IsWritten told = (told.1.0, told.1.1.core, told.1.1.ends, told.1.1.waits)
 
 -- the end of a run, by its status
-pub ended : (script : ScriptValue) (notes : List NoteValue) (status : ℕ) (IsWritten : List ℕ → Type 0) → (status ≡ 0 → IsToldRun script notes false IsWritten) → (status ≡ 4 → IsToldRun script notes true IsWritten) → HasRun status → IsEnd script status notes
+pub ended : (script : ScriptValue) (notes : List NoteValue) (status : ℕ) (IsWritten : List ℕ → Type 0) → (status ≡ 0 → IsWrittenRun script notes false IsWritten) → (status ≡ 4 → IsWrittenRun script notes true IsWritten) → HasRun status → IsEnd script status notes
 ended script notes status IsWritten finished stuck (inl zero_is) =
     let told = finished zero_is in
-    inl (zero_is, finished_run script notes IsWritten told, told.1.lines refl)
+    inl (zero_is, finished_run script notes IsWritten told, told.1.1.lines refl)
 ended script notes status IsWritten finished stuck (inr four_is) = inr (inl (four_is, stuck_run script notes IsWritten (stuck four_is)))

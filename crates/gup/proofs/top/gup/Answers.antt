@@ -26,7 +26,7 @@ returns-in-Ok-clause-follows g c command has =
     let W : List ℕ → Type 0 = λ text. Appends (g.K.Sink.taken c.args.sink.now) (g.K.Sink.taken c.run_and_write.new.sink) text in
     let P : ScriptValue → Type 0 = λ s. Follows s report.journal.notes in
     of_script (g.S.Source.remaining c.args.source.now) script P c.one_script.ensures c.in-Ok.ensures.script
-    (ran script report.journal.notes report.status W (P script) c.run_and_write.ensures.finished c.run_and_write.ensures.stuck (λ stuck text run. run.follows) has)
+    (ran script report.journal.notes report.status W (P script) c.run_and_write.ensures.finished c.run_and_write.ensures.stuck (λ stuck end run. run.follows) has)
 
 pub returns-in-Ok-clause-in_order : goal.returns-in-Ok-clause-in_order
 returns-in-Ok-clause-in_order g c command has =
@@ -35,7 +35,7 @@ returns-in-Ok-clause-in_order g c command has =
     let W : List ℕ → Type 0 = λ text. Appends (g.K.Sink.taken c.args.sink.now) (g.K.Sink.taken c.run_and_write.new.sink) text in
     let P : ScriptValue → Type 0 = λ s. InOrder s report.journal.notes in
     of_script (g.S.Source.remaining c.args.source.now) script P c.one_script.ensures c.in-Ok.ensures.script
-    (ran script report.journal.notes report.status W (P script) c.run_and_write.ensures.finished c.run_and_write.ensures.stuck (λ stuck text run. run.in_order) has)
+    (ran script report.journal.notes report.status W (P script) c.run_and_write.ensures.finished c.run_and_write.ensures.stuck (λ stuck end run. run.in_order) has)
 
 pub returns-in-Ok-clause-plain : goal.returns-in-Ok-clause-plain
 returns-in-Ok-clause-plain g c command has =
@@ -44,7 +44,7 @@ returns-in-Ok-clause-plain g c command has =
     let W : List ℕ → Type 0 = λ text. Appends (g.K.Sink.taken c.args.sink.now) (g.K.Sink.taken c.run_and_write.new.sink) text in
     let P : ScriptValue → Type 0 = λ s. IsPlain s report.journal.notes in
     of_script (g.S.Source.remaining c.args.source.now) script P c.one_script.ensures c.in-Ok.ensures.script
-    (ran script report.journal.notes report.status W (P script) c.run_and_write.ensures.finished c.run_and_write.ensures.stuck (λ stuck text run. run.plain) has)
+    (ran script report.journal.notes report.status W (P script) c.run_and_write.ensures.finished c.run_and_write.ensures.stuck (λ stuck end run. run.plain) has)
 
 pub returns-in-Ok-clause-thorough : goal.returns-in-Ok-clause-thorough
 returns-in-Ok-clause-thorough g c command has =
@@ -53,7 +53,7 @@ returns-in-Ok-clause-thorough g c command has =
     let W : List ℕ → Type 0 = λ text. Appends (g.K.Sink.taken c.args.sink.now) (g.K.Sink.taken c.run_and_write.new.sink) text in
     let P : ScriptValue → Type 0 = λ s. IsThorough s report.journal.notes in
     of_script (g.S.Source.remaining c.args.source.now) script P c.one_script.ensures c.in-Ok.ensures.script
-    (ran script report.journal.notes report.status W (P script) c.run_and_write.ensures.finished c.run_and_write.ensures.stuck (λ stuck text run. run.thorough) has)
+    (ran script report.journal.notes report.status W (P script) c.run_and_write.ensures.finished c.run_and_write.ensures.stuck (λ stuck end run. run.thorough) has)
 
 pub returns-in-Ok-clause-owned : goal.returns-in-Ok-clause-owned
 returns-in-Ok-clause-owned g c command has =
@@ -62,7 +62,7 @@ returns-in-Ok-clause-owned g c command has =
     let W : List ℕ → Type 0 = λ text. Appends (g.K.Sink.taken c.args.sink.now) (g.K.Sink.taken c.run_and_write.new.sink) text in
     let P : ScriptValue → Type 0 = λ s. OwnsBytes (starts_born s) (journal_events report.journal.notes) in
     of_script (g.S.Source.remaining c.args.source.now) script P c.one_script.ensures c.in-Ok.ensures.script
-    (ran script report.journal.notes report.status W (P script) c.run_and_write.ensures.finished c.run_and_write.ensures.stuck (λ stuck text run. run.owned) has)
+    (ran script report.journal.notes report.status W (P script) c.run_and_write.ensures.finished c.run_and_write.ensures.stuck (λ stuck end run. run.owned) has)
 
 pub returns-in-Ok-clause-causes : goal.returns-in-Ok-clause-causes
 returns-in-Ok-clause-causes g c command has =
@@ -71,7 +71,7 @@ returns-in-Ok-clause-causes g c command has =
     let W : List ℕ → Type 0 = λ text. Appends (g.K.Sink.taken c.args.sink.now) (g.K.Sink.taken c.run_and_write.new.sink) text in
     let P : ScriptValue → Type 0 = λ s. HasCauses s report.journal.notes in
     of_script (g.S.Source.remaining c.args.source.now) script P c.one_script.ensures c.in-Ok.ensures.script
-    (ran script report.journal.notes report.status W (P script) c.run_and_write.ensures.finished c.run_and_write.ensures.stuck (λ stuck text run. run.causes) has)
+    (ran script report.journal.notes report.status W (P script) c.run_and_write.ensures.finished c.run_and_write.ensures.stuck (λ stuck end run. run.causes) has)
 
 pub returns-in-Ok-clause-stale : goal.returns-in-Ok-clause-stale
 returns-in-Ok-clause-stale g c command has =
@@ -80,7 +80,7 @@ returns-in-Ok-clause-stale g c command has =
     let W : List ℕ → Type 0 = λ text. Appends (g.K.Sink.taken c.args.sink.now) (g.K.Sink.taken c.run_and_write.new.sink) text in
     let P : ScriptValue → Type 0 = λ s. AreStaleSeen s report.journal.notes in
     of_script (g.S.Source.remaining c.args.source.now) script P c.one_script.ensures c.in-Ok.ensures.script
-    (ran script report.journal.notes report.status W (P script) c.run_and_write.ensures.finished c.run_and_write.ensures.stuck (λ stuck text run. run.stale) has)
+    (ran script report.journal.notes report.status W (P script) c.run_and_write.ensures.finished c.run_and_write.ensures.stuck (λ stuck end run. run.stale) has)
 
 pub returns-in-Ok-clause-core : goal.returns-in-Ok-clause-core
 returns-in-Ok-clause-core g c command is =
@@ -124,7 +124,7 @@ returns-in-Ok-clause-lines g c command is =
     let notes = c.run_and_write.result.journal.notes in
     let P : ScriptValue → Type 0 = λ s. length (outcomes_of notes) ≡ operations s in
     of_script (g.S.Source.remaining c.args.source.now) script P c.one_script.ensures c.in-Ok.ensures.script
-    ((c.run_and_write.ensures.finished is).1.lines refl)
+    ((c.run_and_write.ensures.finished is).1.1.lines refl)
 
 pub returns-in-Ok-clause-text_part : goal.returns-in-Ok-clause-text_part
 returns-in-Ok-clause-text_part g c six command =
