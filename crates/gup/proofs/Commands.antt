@@ -1,8 +1,46 @@
--- No words are two commands.
-use Rattle.std.proofs.Common.{◌≡◌, ℕ, List, sym, ◌∙◌}
-use Rattle.std.specs.Prelude.{decimal}
+-- Which words are which command.
+use Rattle.std.proofs.Common.{◌≡◌, ℕ, ◌<◌, ◌≤◌, true, List, [], ◌∷◌, Some, None, map, length, get_or, sym, ap, ap₂, ◌∙◌, arith, inl, inr}
+use Rattle.std.specs.Prelude.{codes, decimal}
+use Rattle.std.specs.Str.{bytes_eq}
+use Rattle.std.proofs.lemmas.Slice.Eq.{bytes_eq-Decides}
 use Rattle.std.proofs.lemmas.Fmt.{decimal_injective}
-use Rattle.gup.specs.Report.{IsRun, IsMake}
+use Rattle.gup_read_words.specs.Text.{number_in}
+use Rattle.gup_read_words.proofs.SpelledNumbers.{number_found, decimal_read}
+use Rattle.gup.specs.Report.{IsRun, IsMake, IsCommand}
+
+-- lists of one and of two
+
+pub one_of : {X : Type 0} (f : X → List ℕ) (xs : List X) (x : X) → 1 ≤ length xs → length xs < 2 → x ≡ get_or xs 0 x → map f xs ≡ f x ∷ []
+one_of f [] x some few is = absurd (omega arith)
+one_of f (y ∷ []) x some few is = ap (λ z. f z ∷ []) (sym is)
+one_of f (y ∷ z ∷ ys) x some few is = absurd (omega arith)
+
+pub two_of : {X : Type 0} (f : X → List ℕ) (xs : List X) (x y : X) → 2 ≤ length xs → length xs < 3 → x ≡ get_or xs 0 x → y ≡ get_or xs 1 y → map f xs ≡ f x ∷ f y ∷ []
+two_of f [] x y some few is next = absurd (omega arith)
+two_of f (a ∷ []) x y some few is next = absurd (omega arith)
+two_of f (a ∷ b ∷ []) x y some few is next = ap₂ (λ v w. f v ∷ f w ∷ []) (sym is) (sym next)
+two_of f (a ∷ b ∷ c ∷ xs) x y some few is next = absurd (omega arith)
+
+-- the words of `run`
+pub run_words : (words : List (List ℕ)) (word : List ℕ) → words ≡ word ∷ [] → bytes_eq word (codes "run") ≡ true → IsRun words
+run_words words word are same = are ∙ ap (λ w. w ∷ []) ((bytes_eq-Decides word (codes "run")).0 same)
+
+-- those of `make`, by the number that was read
+pub make_words : (words : List (List ℕ)) (word count : List ℕ) (n : ℕ) → words ≡ word ∷ count ∷ [] → bytes_eq word (codes "make") ≡ true → number_in count ≡ Some n → IsMake words n
+make_words words word count n are same read =
+    let found = number_found count n read in
+    (are ∙ ap₂ (λ w k. w ∷ k ∷ []) ((bytes_eq-Decides word (codes "make")).0 same) found.0, found.1)
+
+-- where no number was read, they are none
+pub no_number : (words : List (List ℕ)) (word count : List ℕ) → words ≡ word ∷ count ∷ [] → number_in count ≡ None → IsCommand words → ⊥
+no_number words word count are unread (inl run) = let e = sym are ∙ run in absurd (cc)
+no_number words word count are unread (inr made) =
+    let e = sym are ∙ made.1.0 in
+    let spelled : count ≡ decimal made.0 = cc in
+    let read = sym unread ∙ ap number_in spelled ∙ decimal_read made.0 made.1.1 in
+    absurd (cc)
+
+-- no words are two commands
 
 pub not_both : (words : List (List ℕ)) (n : ℕ) → IsRun words → IsMake words n → ⊥
 not_both words n run made = let e = sym run ∙ made.0 in absurd (cc)

@@ -1,16 +1,16 @@
 -- What is counted of a journal, note by note.
-use Rattle.std.proofs.Common.{◌≡◌, ℕ, ◌+◌, Bool, true, false, cond, List, [], ◌∷◌, length, refl, sym, ap, ◌∙◌, arith}
+use Rattle.std.proofs.Common.{◌≡◌, ℕ, ◌+◌, ◌≤◌, Bool, true, false, cond, List, [], ◌∷◌, length, refl, sym, ap₂, ◌∙◌, arith}
 use Rattle.std.specs.Prelude.{codes, take, count_by, sum_by}
 use Rattle.std.specs.Str.{bytes_eq}
 use Rattle.std.proofs.lemmas.List.Sums.{sum_by-cons}
+use Rattle.std.proofs.lemmas.List.{length-take}
 use Rattle.gup_plain.specs.Note.{NoteValue}
 use Rattle.gup_plain.specs.Put.{put}
 use Rattle.gup_plain.specs.declared.answer.Answer.{Answer}
 use Rattle.gup_plain.specs.declared.answer.Answer.TheVariants as answers
-use Rattle.gup_plain.specs.declared.answer.Cause.{Cause}
-use Rattle.gup_plain.specs.declared.event.PlainEvent.{PlainEvent}
 use Rattle.gup_plain.specs.declared.note.What.{What}
 use Rattle.gup_plain.specs.declared.note.What.TheVariants.{Silent, Idle, Wait, Event, Done}
+use Rattle.gup_lines.specs.declared.outcome.Outcome.{Outcome}
 use Rattle.gup_lines.specs.Text.{answer_text, outcomes_from, outcomes_of, words_after}
 use Rattle.gup.specs.Counts.{is_ok, answers_in, oks_in}
 use Rattle.gup.specs.Summary.{says_ok}
@@ -46,10 +46,10 @@ oks_over notes = sum_by (λ (note : NoteValue). oks_in note.what) notes
 one_answer : (moved : ℕ → List ℕ) (turn actor op : ℕ) (what : What) (rest : List NoteValue) → ((words : ℕ → List ℕ) → length (outcomes_from words rest) ≡ answers_over rest)
     → length (outcomes_from moved (record { turn = turn; actor = actor; op = op; what = what } ∷ rest)) ≡ answers_in what + answers_over rest
 one_answer moved turn actor op (Done answer) rest same = let more = same (put actor [] moved) in omega (arith, more)
-one_answer moved turn actor op Silent rest same = same (put actor (moved actor) moved)
-one_answer moved turn actor op Idle rest same = same (put actor (moved actor) moved)
-one_answer moved turn actor op (Wait waiting) rest same = same (put actor (moved actor) moved)
-one_answer moved turn actor op (Event event) rest same = same (put actor (words_after (moved actor) (Event event)) moved)
+one_answer moved turn actor op Silent rest same = let more = same (put actor (moved actor) moved) in omega (arith, more)
+one_answer moved turn actor op Idle rest same = let more = same (put actor (moved actor) moved) in omega (arith, more)
+one_answer moved turn actor op (Wait waiting) rest same = let more = same (put actor (moved actor) moved) in omega (arith, more)
+one_answer moved turn actor op (Event event) rest same = let more = same (put actor (words_after (moved actor) (Event event)) moved) in omega (arith, more)
 
 answers_from : (moved : ℕ → List ℕ) (notes : List NoteValue) → length (outcomes_from moved notes) ≡ answers_over notes
 answers_from moved [] = refl
@@ -66,17 +66,12 @@ oks_of words notes = count_by says_ok (outcomes_from words notes)
 one_ok : (moved : ℕ → List ℕ) (turn actor op : ℕ) (what : What) (rest : List NoteValue) → ((words : ℕ → List ℕ) → oks_of words rest ≡ oks_over rest)
     → oks_of moved (record { turn = turn; actor = actor; op = op; what = what } ∷ rest) ≡ oks_in what + oks_over rest
 one_ok moved turn actor op (Done answer) rest same =
-    counted (bytes_eq (take 2 (answer_text answer (moved actor))) (codes "ok")) (is_ok answer) (ok_said answer (moved actor)) (oks_of (put actor [] moved) rest) (oks_over rest) (same (put actor [] moved))
-  where
-    counted : (says is : Bool) → says ≡ is → (n m : ℕ) → n ≡ m → cond says (1 + n) n ≡ cond is 1 0 + m
-    counted true true same n m e = ap (λ k. 1 + k) e
-    counted false false same n m e = e
-    counted true false same n m e = absurd (cc)
-    counted false true same n m e = absurd (cc)
-one_ok moved turn actor op Silent rest same = same (put actor (moved actor) moved)
-one_ok moved turn actor op Idle rest same = same (put actor (moved actor) moved)
-one_ok moved turn actor op (Wait waiting) rest same = same (put actor (moved actor) moved)
-one_ok moved turn actor op (Event event) rest same = same (put actor (words_after (moved actor) (Event event)) moved)
+    sum_by-cons (λ (o : Outcome). cond (says_ok o) 1 0) (record { actor = actor; op = op; answer = answer; words = moved actor }) (outcomes_from (put actor [] moved) rest)
+    ∙ ap₂ (λ b k. cond {A = ℕ} b 1 0 + k) (ok_said answer (moved actor)) (same (put actor [] moved))
+one_ok moved turn actor op Silent rest same = let more = same (put actor (moved actor) moved) in omega (arith, more)
+one_ok moved turn actor op Idle rest same = let more = same (put actor (moved actor) moved) in omega (arith, more)
+one_ok moved turn actor op (Wait waiting) rest same = let more = same (put actor (moved actor) moved) in omega (arith, more)
+one_ok moved turn actor op (Event event) rest same = let more = same (put actor (words_after (moved actor) (Event event)) moved) in omega (arith, more)
 
 oks_from : (moved : ℕ → List ℕ) (notes : List NoteValue) → oks_of moved notes ≡ oks_over notes
 oks_from moved [] = refl
@@ -86,3 +81,37 @@ oks_from moved (note ∷ notes) =
 
 pub oks_counted : (notes : List NoteValue) → count_by says_ok (outcomes_of notes) ≡ oks_over notes
 oks_counted notes = oks_from (λ _. []) notes
+
+-- there are no more of them than notes
+
+few_answers : (notes : List NoteValue) → answers_over notes ≤ length notes
+few_answers [] = omega arith
+few_answers (note ∷ notes) = omega (arith, sum_by-cons (λ (n : NoteValue). answers_in n.what) note notes, at_most_one note.what, few_answers notes)
+  where
+    at_most_one : (what : What) → answers_in what ≤ 1
+    at_most_one (Done answer) = omega arith
+    at_most_one Silent = omega arith
+    at_most_one Idle = omega arith
+    at_most_one (Wait waiting) = omega arith
+    at_most_one (Event event) = omega arith
+
+few_oks : (notes : List NoteValue) → oks_over notes ≤ length notes
+few_oks [] = omega arith
+few_oks (note ∷ notes) = omega (arith, sum_by-cons (λ (n : NoteValue). oks_in n.what) note notes, at_most_one note.what, few_oks notes)
+  where
+    one_or_none : (b : Bool) → cond b 1 0 ≤ 1
+    one_or_none true = omega arith
+    one_or_none false = omega arith
+
+    at_most_one : (what : What) → oks_in what ≤ 1
+    at_most_one (Done answer) = one_or_none (is_ok answer)
+    at_most_one Silent = omega arith
+    at_most_one Idle = omega arith
+    at_most_one (Wait waiting) = omega arith
+    at_most_one (Event event) = omega arith
+
+-- among the first k notes there are no more than k
+pub few_of_first : (k : ℕ) (notes : List NoteValue) → (answers_over (take k notes) ≤ k) × (oks_over (take k notes) ≤ k)
+few_of_first k notes =
+    let front : length (take k notes) ≤ k = rw (length-take k notes) (omega arith) in
+    (omega (arith, few_answers (take k notes), front), omega (arith, few_oks (take k notes), front))

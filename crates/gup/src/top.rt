@@ -289,6 +289,7 @@ fn show_usage<K: Sink>(alloc: Global, sink: &mut K) -> Report
 /// The statuses: 0, the script ran and the sink took its whole text; 2, the words are no command; 3, the bytes are
 /// no script; 4, the same as 0, but that actors are stuck: they wait at the end of the run; 5, a read failed; 6, a
 /// write failed; 7, memory ran out.
+#[tactic(auto, using(crate::proofs::Commands::not_both, crate::proofs::Commands::one_number))]
 pub fn gup<S: Source, K: Sink>(
     alloc: Global,
     words: &[String],
