@@ -25,7 +25,7 @@ returns c =
       c.in_ok-script.ensures,
       run.1.run,
       c.in_ok-push_stuck_lines.ensures end run.1.shown
-      ∙ ap (λ (l : List ℕ). l ++ stuck_text c.script-2.result.now end) c.in_ok-text.ensures
-      ∙ ap (λ (n : ℕ). summary_lines notes n ++ stuck_text c.script-2.result.now end) (c.turns.ensures ∙ run.1.turns)
-      ∙ ap (λ (s : ScriptValue). summary_lines notes end.turns ++ stuck_text s end) of_stuck,
+          ∙ ap (λ (l : List ℕ). l ++ stuck_text c.script-2.result.now end) c.in_ok-text.ensures
+          ∙ ap (λ (n : ℕ). summary_lines notes n ++ stuck_text c.script-2.result.now end) (c.turns.ensures ∙ run.1.turns)
+          ∙ ap (λ (s : ScriptValue). summary_lines notes end.turns ++ stuck_text s end) of_stuck,
     )

@@ -23,7 +23,7 @@ returns c =
       end,
       run.1.run,
       c.in_ok-push_stuck_lines.ensures end run.1.shown
-      ∙ ap (λ (l : List ℕ). l ++ stuck_text c.script-2.result.now end) c.in_ok-text.ensures
-      ∙ ap (λ (s : ScriptValue). text_of s notes ++ stuck_text c.script-2.result.now end) of_lines
-      ∙ ap (λ (s : ScriptValue). text_of script notes ++ stuck_text s end) of_stuck,
+          ∙ ap (λ (l : List ℕ). l ++ stuck_text c.script-2.result.now end) c.in_ok-text.ensures
+          ∙ ap (λ (s : ScriptValue). text_of s notes ++ stuck_text c.script-2.result.now end) of_lines
+          ∙ ap (λ (s : ScriptValue). text_of script notes ++ stuck_text s end) of_stuck,
     )
