@@ -1,4 +1,4 @@
-use Rattle.std.proofs.Common.{◌≡◌, ℕ, List, subst, refl, length, inl, inr}
+use Rattle.std.proofs.Common.{◌≡◌, ℕ, Bool, true, false, List, subst, refl, length, inl, inr}
 use Rattle.std.specs.Io.KnownBytes.{Appends}
 use Rattle.gup_script.specs.Script.{ScriptValue}
 use Rattle.gup_spec_journal.specs.Place.{starts_born}
@@ -12,7 +12,11 @@ use Rattle.gup_spec_turns.specs.Cost.{operations}
 use Rattle.gup_spec_turns.specs.Run.{RunState, IsCoreRun}
 use Rattle.gup.specs.Cause.{HasCauses}
 use Rattle.gup_spec_journal.specs.Stale.{AreStaleSeen}
-use Rattle.gup.specs.Report.{IsPartlyTold, IsEnd, IsUnreadFor}
+use Rattle.gup_io.specs.Transfers.{AppendsPart}
+use Rattle.gup.specs.Report.{IsMake, IsAsked, IsMadeRun, IsPartlyTold, IsEnd, IsUnreadFor}
+use Rattle.gup.specs.declared.command.Command.{Command}
+use Rattle.gup.specs.declared.command.Command.TheVariants.{Make}
+use Rattle.gup.proofs.Commands.{one_number}
 use Rattle.gup.specs.Stuck.{IsFinishedRun, IsStuckRun, run_text}
 use Rattle.gup.specs.declared.top.Unread.{Unread}
 use Rattle.gup.proofs.RunEnd.{ran, finished_written, stuck_written, finished_run, stuck_run, ended}
@@ -172,3 +176,25 @@ returns-in-Err-Fault-clause-text_part g c six command =
     let Q : ScriptValue → Type 0 = λ s. IsPartlyTold s notes (g.K.Sink.taken c.args.sink.now) (g.K.Sink.taken c.refuse.new.sink) in
     of_none (g.S.Source.remaining c.args.source.now) Q
     (refused_none (g.S.Source.remaining c.args.source.now) c.in-Err-Fault.fault c.scripts_have_no_fault.ensures (subst P c.in-Err-Fault.field-0-is c.in-Err-Fault.ensures.unread))
+
+-- the number that the words ask for is the one that was read
+asked_number : (words : List (List ℕ)) (command : Command) (n m : ℕ) → command ≡ Make n → IsAsked words command → IsMake words m → n ≡ m
+asked_number words command n m is asked made = one_number words n m (subst (IsAsked words) is asked) made
+
+pub returns-in-Make-clause-made : goal.returns-in-Make-clause-made
+returns-in-Make-clause-made g c n made zero =
+    let same = asked_number _ c.in-Some.command c.in-Make.n n c.in-Make.is c.in-Some.ensures.found made in
+    let P : ℕ → Type 0 = λ k. (text : List ℕ) × IsMadeRun k false text × Appends (g.K.Sink.taken c.args.sink.now) (g.K.Sink.taken c.make_and_write.new.sink) text in
+    subst P same (c.make_and_write.ensures.finished zero)
+
+pub returns-in-Make-clause-made_stuck : goal.returns-in-Make-clause-made_stuck
+returns-in-Make-clause-made_stuck g c n made four =
+    let same = asked_number _ c.in-Some.command c.in-Make.n n c.in-Make.is c.in-Some.ensures.found made in
+    let P : ℕ → Type 0 = λ k. (text : List ℕ) × IsMadeRun k true text × Appends (g.K.Sink.taken c.args.sink.now) (g.K.Sink.taken c.make_and_write.new.sink) text in
+    subst P same (c.make_and_write.ensures.stuck four)
+
+pub returns-in-Make-clause-made_part : goal.returns-in-Make-clause-made_part
+returns-in-Make-clause-made_part g c n made six =
+    let same = asked_number _ c.in-Some.command c.in-Make.n n c.in-Make.is c.in-Some.ensures.found made in
+    let P : ℕ → Type 0 = λ k. (stuck : Bool) × (text : List ℕ) × IsMadeRun k stuck text × AppendsPart (g.K.Sink.taken c.args.sink.now) (g.K.Sink.taken c.make_and_write.new.sink) text in
+    subst P same (c.make_and_write.ensures.part six)
