@@ -6,7 +6,7 @@ ghost use Rattle.gup_base.specs.Packing.{pack_of, unpack_of};
 use crate::numbers::FrameNo;
 
 /// What a process may do with a mapped page (of Linux's rights, `VM_READ` and `VM_WRITE`).
-#[derive(Clone, Copy, Debug, PartialEq, Eq)]
+#[derive(Clone, Copy, Debug, PartialEq, Eq, Hash)]
 pub enum Rights {
     /// Read it.
     R,
@@ -42,7 +42,7 @@ pub struct Want {
 }
 
 /// A page table entry that is present.
-#[derive(Clone, Copy, Debug, PartialEq, Eq)]
+#[derive(Clone, Copy, Debug, PartialEq, Eq, Hash)]
 pub struct Entry {
     /// The frame that has the page's words.
     pub frame: FrameNo,

@@ -6,7 +6,7 @@ use std::marker::Model;
 
 /// The number of a page of a process's memory, below 2^35: an address of 47 bits, divided by the 4,096 bytes of a
 /// page. The last of these pages is a number too; Linux on x86-64 keeps it from programs (`TASK_SIZE_MAX`).
-#[derive(Clone, Copy, Debug, PartialEq, Eq, PartialOrd, Ord)]
+#[derive(Clone, Copy, Debug, PartialEq, Eq, PartialOrd, Ord, Hash)]
 pub struct PageNo {
     number: u64,
 }
@@ -47,7 +47,7 @@ impl PageNo {
 
 /// The number of a frame, below 16,384: it takes 14 bits of a packed entry. The default is 0, which stands in the unused
 /// places of short lists.
-#[derive(Clone, Copy, Debug, Default, PartialEq, Eq, PartialOrd, Ord)]
+#[derive(Clone, Copy, Debug, Default, PartialEq, Eq, PartialOrd, Ord, Hash)]
 pub struct FrameNo {
     number: u16,
 }
@@ -87,7 +87,7 @@ impl FrameNo {
 }
 
 /// The number of a process in the order of a script's declarations, below 16.
-#[derive(Clone, Copy, Debug, PartialEq, Eq, PartialOrd, Ord)]
+#[derive(Clone, Copy, Debug, PartialEq, Eq, PartialOrd, Ord, Hash)]
 pub struct ProcNo {
     number: u8,
 }
@@ -127,7 +127,7 @@ impl ProcNo {
 }
 
 /// The number of an actor in the order of a script's declarations, below 81: 64 threads, 16 devices, one mover.
-#[derive(Clone, Copy, Debug, PartialEq, Eq, PartialOrd, Ord)]
+#[derive(Clone, Copy, Debug, PartialEq, Eq, PartialOrd, Ord, Hash)]
 pub struct ActorNo {
     number: u8,
 }
@@ -167,7 +167,7 @@ impl ActorNo {
 }
 
 /// The number of a handle in the order of a script's declarations, below 1,024.
-#[derive(Clone, Copy, Debug, PartialEq, Eq, PartialOrd, Ord)]
+#[derive(Clone, Copy, Debug, PartialEq, Eq, PartialOrd, Ord, Hash)]
 pub struct HandleNo {
     number: u16,
 }
@@ -207,7 +207,7 @@ impl HandleNo {
 }
 
 /// The number of a mirror slot in the order of a script's declarations, below 64.
-#[derive(Clone, Copy, Debug, PartialEq, Eq, PartialOrd, Ord)]
+#[derive(Clone, Copy, Debug, PartialEq, Eq, PartialOrd, Ord, Hash)]
 pub struct MirrorNo {
     number: u8,
 }
@@ -247,7 +247,7 @@ impl MirrorNo {
 }
 
 /// The number of a word within its page, below 512: a page has 4,096 bytes, and a word 8.
-#[derive(Clone, Copy, Debug, PartialEq, Eq, PartialOrd, Ord)]
+#[derive(Clone, Copy, Debug, PartialEq, Eq, PartialOrd, Ord, Hash)]
 pub struct WordNo {
     number: u16,
 }

@@ -2,7 +2,7 @@
 use gup_base::{Entry, FrameNo, PageNo};
 
 /// Where the lockless walk of a pin stands between two turns.
-#[derive(Clone, Copy, Debug, PartialEq, Eq)]
+#[derive(Clone, Copy, Debug, PartialEq, Eq, Hash)]
 pub enum WalkPlace {
     /// The process has pinned, and the sequence is to be read.
     Entered,
@@ -29,7 +29,7 @@ pub enum WalkPlace {
 ///
 /// It goes through each turn, so it is kept small: fields lie as they are written, the small ones first, and it takes 24
 /// bytes.
-#[derive(Clone, Copy, Debug, PartialEq, Eq)]
+#[derive(Clone, Copy, Debug, PartialEq, Eq, Hash)]
 pub enum JobPlace {
     /// It has not begun, or has nothing to keep.
     Unbegun,

@@ -1,5 +1,5 @@
 /// What an operation answers where it ends: the first five say what it did, the others why it was refused.
-#[derive(Clone, Copy, Debug, PartialEq, Eq)]
+#[derive(Clone, Copy, Debug, PartialEq, Eq, Hash)]
 pub enum Answer {
     /// It is done.
     Plain,
@@ -40,7 +40,7 @@ pub enum Answer {
 }
 
 /// Why the page after a short pin was refused.
-#[derive(Clone, Copy, Debug, PartialEq, Eq)]
+#[derive(Clone, Copy, Debug, PartialEq, Eq, Hash)]
 pub enum Cause {
     /// The page has no mapping.
     Missing,

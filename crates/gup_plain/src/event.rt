@@ -2,7 +2,7 @@ use gup_base::{ActorNo, HandleNo, MirrorNo, PageNo, ProcNo, Rights, WordNo};
 
 /// One step of the plain model. Contracts say when a step can happen and what it changes by `CanHappen` and
 /// `happened`; all else stays. A page is named where its process is born and has it mapped.
-#[derive(Clone, Copy, Debug, PartialEq, Eq)]
+#[derive(Clone, Copy, Debug, PartialEq, Eq, Hash)]
 pub enum PlainEvent {
     /// The `n` pages from `page` on get a fresh object of zeros each, with these rights. None of them is mapped
     /// before, the last is below 2^35, and the process has at most 1,024 mapped pages afterwards.

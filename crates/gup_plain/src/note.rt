@@ -7,7 +7,7 @@ use gup_base::{ActorNo, HandleNo, MirrorNo, PageNo, ProcNo, Rights, WordNo};
 use std::marker::Model;
 
 /// What one note of a turn says.
-#[derive(Clone, Copy, Debug, PartialEq, Eq)]
+#[derive(Clone, Copy, Debug, PartialEq, Eq, Hash)]
 pub enum What {
     /// A turn without a plain event.
     Silent,
@@ -22,7 +22,7 @@ pub enum What {
 }
 
 /// What an actor waits for.
-#[derive(Clone, Copy, Debug, PartialEq, Eq)]
+#[derive(Clone, Copy, Debug, PartialEq, Eq, Hash)]
 pub enum Waiting {
     /// A lock that this actor holds.
     Holder(ActorNo),
