@@ -13,7 +13,7 @@ use Rattle.gup_spec_events.specs.State.{CoreState}
 use Rattle.gup_spec_journal.specs.Place.{Doer, Place, doer_of, has_finished, ops_of}
 use Rattle.gup_spec_journal.specs.Follows.{note_of, notes_of_turn}
 use Rattle.gup_spec_turns.specs.Run.{RunState, is_ready, op_in, waiting_in, waiting_with, core_turn_by, run_after}
-use Rattle.gup_core.specs.declared.seats.Seat.{Seat}
+use Rattle.gup_op_waits.specs.declared.seats.Seat.{Seat}
 use Rattle.gup_core.specs.Machine.{MachineValue, machine_of, counted, Shows, TakesTurns}
 use Rattle.gup_core.specs.Going.{CanGo, WaitsFor, HasFinished, HasMore, IsStill, MayWakeOf}
 use Rattle.gup_op_base.specs.Said.{Said, whats_by, whats_of}
@@ -22,7 +22,7 @@ use Rattle.gup_plain.specs.declared.event.PlainEvent.{PlainEvent}
 use Rattle.gup_core.specs.Rest.{op_of_seat}
 use Rattle.gup_core.proofs.Resting.{op_there}
 use Rattle.gup_core.proofs.Taking.{stays, says_so, job_of_seat}
-use Rattle.gup_core.specs.Seats.{seat_behind}
+use Rattle.gup_op_waits.specs.Seats.{seat_behind}
 use Rattle.gup_core.specs.Waking.{woken_of}
 use Rattle.gup_core.specs.declared.outcome.Woken.{Woken}
 use Rattle.gup_law_waits.specs.Woken.{wakes}

@@ -21,9 +21,9 @@ use Rattle.gup_law_turns.specs.Standing.{IsStanding}
 use Rattle.gup_spec_turns.specs.JobPlace.{KeepsNoJob, StandsFork}
 use Rattle.gup_law_turns.proofs.ScriptLemmas.{op_is_op, child_declared, op_has_process, thread_birth, has_ops_declared}
 use Rattle.gup_op_base.specs.Tidy.{needs_table}
-use Rattle.gup_core.specs.declared.seats.Seat.{Seat}
+use Rattle.gup_op_waits.specs.declared.seats.Seat.{Seat}
 use Rattle.gup_op_waits.specs.Locks.{pin_needs}
-use Rattle.gup_core.specs.Seats.{IsSeat}
+use Rattle.gup_op_waits.specs.Seats.{IsSeat}
 use Rattle.gup_op_waits.specs.Births.{HasFailed}
 use Rattle.gup_op_waits.specs.Doers.{HasProcess, IsProcessOf}
 use Rattle.gup_op_waits.specs.declared.parts.Parts.{Parts}

@@ -42,12 +42,12 @@ use Rattle.gup_spec_turns.specs.PinPlace.{StandsPin, HasTaken, HasPages, IsWithi
 use Rattle.gup_base.specs.declared.entry.Want.{Want}
 use Rattle.gup_core.proofs.Pinning.{length_frames}
 use Rattle.gup_op_base.specs.Tidy.{IsTidy}
-use Rattle.gup_core.specs.declared.seats.Seat.{Seat}
+use Rattle.gup_op_waits.specs.declared.seats.Seat.{Seat}
 use Rattle.gup_core.specs.Machine.{MachineValue, Shows, IsReached, IsMachine}
 use Rattle.gup_op_waits.specs.Parts.{ShowsParts}
 use Rattle.gup_op_waits.specs.Stands.{StandsAt}
 use Rattle.gup_core.specs.Rest.{IsAtRest, HoldsNoLock, IsReadyPin, op_of_seat}
-use Rattle.gup_core.specs.Seats.{IsSeat}
+use Rattle.gup_op_waits.specs.Seats.{IsSeat}
 
 -- what the turns' law says
 abbrev pub Stand : Type 0

@@ -2,16 +2,12 @@
 use Rattle.std.proofs.Common.{◌≡◌, ℕ, ◌+◌, Bool, true, false, ◌<◌, ◌≤◌, Option, Some, None, IsSome, IfSome, List, [], ◌∷◌, length, slice_get, sum_by, zero, suc, refl, sym, ap, ◌∙◌, arith}
 use Rattle.std.proofs.lemmas.List.Sums.{sum_by-cons}
 use Rattle.gup_script.specs.declared.op.Op.{Op}
-use Rattle.gup_script.specs.declared.op.Op.TheVariants.{Unmap, Pin, Unpin, Give, Take, Transfer, Mirror, Look}
+use Rattle.gup_script.specs.declared.op.Op.TheVariants.{Unpin, Give, Take, Transfer, Mirror, Look}
 use Rattle.gup_script.specs.Script.{ScriptValue, Actor, actor_at}
-use Rattle.gup_script.specs.Limits.{most_pinned}
-use Rattle.gup_script.specs.Valid.{IsScript, IsOp}
+use Rattle.gup_script.specs.Valid.{IsScript}
 use Rattle.gup_spec_journal.specs.Place.{Doer, doer_of, ops_in, ops_of}
 use Rattle.gup_law_turns.proofs.ScriptLemmas.{IsOfNoDevice, has_own_process, op_has_process}
-use Rattle.gup_spec_turns.specs.Cost.{pins_turns}
 use Rattle.gup_op_waits.specs.Doers.{HasProcess, IsProcessOf}
-use Rattle.gup_op_base.specs.Far.{HasFar}
-use Rattle.gup_core.specs.Seats.{far_behind}
 
 -- the process of an operation is a declared one
 
@@ -64,19 +60,6 @@ few_ops script valid a = go (actor_at script a) refl
     go : (actor : Option Actor) → actor_at script a ≡ actor → length (ops_in actor) ≤ 16384
     go None at = omega arith
     go (Some actor) at = let one = one_of_sum script.actors a actor at in let all = valid.few_ops in omega arith
-
--- a pin has 131 turns at most
-pins_below : (fast long : Bool) (n far : ℕ) → n ≤ most_pinned → far < pins_turns fast long n → far + 1 ≤ 1024
-pins_below true true n far most has = omega (arith, most, has)
-pins_below true false n far most has = omega (arith, most, has)
-pins_below false true n far most has = omega (arith, most, has)
-pins_below false false n far most has = omega (arith, most, has)
-
--- an operation that goes over pages or words goes over 1,024 at most
-pub far_below : (op : Op) (far : ℕ) → IsOp op → HasFar op far → far_behind op far ≤ 1024
-far_below (Unmap page n) far is has = omega arith
-far_below (Pin handle page n want fast) far is has = pins_below fast want.long n far is.1 has
-far_below op far is has = omega arith
 
 -- so the number of an operation fits
 pub few_answered : (script : ScriptValue) → IsScript script → (a answered : ℕ) → answered ≤ length (ops_of script a) → answered ≤ 16384

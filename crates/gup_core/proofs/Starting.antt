@@ -6,13 +6,13 @@ use Rattle.gup_spec_turns.specs.Run.{run_start}
 use Rattle.gup_op_base.specs.declared.jobs.JobPlace.TheVariants.{Unbegun}
 use Rattle.gup_op_pins.specs.Pins.{EndAt, last_page}
 use Rattle.gup_op_base.specs.Jobs.{place_of}
-use Rattle.gup_core.specs.declared.seats.Seat.{Seat}
+use Rattle.gup_op_waits.specs.declared.seats.Seat.{Seat}
 use Rattle.gup_op_waits.specs.declared.parts.Parts.{Parts}
 use Rattle.gup_core.specs.Machine.{machine_of, Shows}
 use Rattle.gup_op_waits.specs.Parts.{ShowsParts}
 use Rattle.gup_notify.specs.Mirrors.{Filled, mirrors_of, no_mirrors}
 use Rattle.gup_notify.specs.Shows.{IsMirror}
-use Rattle.gup_core.specs.Seats.{IsSeat, first_seats}
+use Rattle.gup_op_waits.specs.Seats.{IsSeat, first_seats}
 use Rattle.gup_core.proofs.Taking.{first_far}
 
 abbrev pub no_turn : Seat

@@ -31,7 +31,7 @@ use Rattle.gup_op_base.specs.Jobs.{place_of}
 use Rattle.gup_op_base.specs.Said.{Said, whats_by, whats_of}
 use Rattle.gup_op_base.specs.Turns.{Leads}
 use Rattle.gup_op_waits.specs.declared.parts.Parts.{Parts}
-use Rattle.gup_core.specs.declared.seats.Seat.{Seat}
+use Rattle.gup_op_waits.specs.declared.seats.Seat.{Seat}
 use Rattle.gup_op_waits.specs.Doers.{IsProcessOf}
 use Rattle.gup_op_waits.specs.Stands.{StandsAt}
 use Rattle.gup_core.specs.Goes.{ShowsAll, StandsWith, TakesMirrors, EndsAt, all_view}
@@ -42,7 +42,7 @@ use Rattle.gup_law_turns.specs.Slots.{EmptiesSlots}
 use Rattle.gup_core.specs.Machine.{MachineValue, machine_of, counted, Shows, TakesTurns, IsMachine, IsReached}
 use Rattle.gup_op_waits.specs.Parts.{ShowsParts, AreParts}
 use Rattle.gup_core.specs.Rest.{IsAtRest, op_of_seat}
-use Rattle.gup_core.specs.Seats.{IsSeat, far_behind, seat_behind}
+use Rattle.gup_op_waits.specs.Seats.{IsSeat, far_behind, seat_behind}
 use Rattle.gup_core.proofs.Notes.{NoTwo, turn_two}
 use Rattle.gup_core.proofs.Resting.{Stand, standing, reached_behind, op_there, stands_at}
 use Rattle.gup_core.proofs.Turning.{IsTurnWith, differ, replaced}

@@ -21,7 +21,7 @@ use Rattle.gup_core.specs.Copies.{IsCopyAt}
 use Rattle.gup_core.specs.Goes.{IsReady}
 use Rattle.gup_core.specs.Machine.{MachineValue, Shows, IsMachine}
 use Rattle.gup_core.specs.Rest.{IsAtRest, op_of_seat}
-use Rattle.gup_core.specs.declared.seats.Seat.{Seat}
+use Rattle.gup_op_waits.specs.declared.seats.Seat.{Seat}
 use Rattle.gup_core.proofs.Ready.{is_ready}
 use Rattle.gup_core.proofs.Resting.{Stand}
 use Rattle.gup_core.proofs.Singles.{process_is}

@@ -1,4 +1,3 @@
-pub mod Seats
 pub mod Machine
 pub mod Goes
 pub mod Rest

@@ -14,8 +14,8 @@ use Rattle.gup_script.specs.declared.op.Op.TheVariants.{Pin}
 use Rattle.gup_op_base.specs.Jobs.{place_of}
 use Rattle.gup_op_pins.specs.Pins.{EndAt, last_page}
 use Rattle.gup_op_waits.specs.declared.parts.Parts.{Parts}
-use Rattle.gup_core.specs.declared.seats.Seat.{Seat}
-use Rattle.gup_core.specs.Seats.{IsSeat}
+use Rattle.gup_op_waits.specs.declared.seats.Seat.{Seat}
+use Rattle.gup_op_waits.specs.Seats.{IsSeat}
 use Rattle.gup_op_waits.specs.Parts.{ShowsParts, AreParts}
 use Rattle.gup_notify.specs.Mirrors.{Filled, mirrors_of}
 use Rattle.gup_notify.specs.Shows.{ShowsMirrors}

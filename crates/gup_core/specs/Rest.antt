@@ -23,7 +23,7 @@ use Rattle.gup_op_pins.specs.Pins.{IsReferred, IsWeighed}
 use Rattle.gup_op_move.specs.Moving.{IsReadyToMove}
 use Rattle.gup_op_pins.specs.Pins.{IsCleared, IsReadyToWalk, IsWithinPin}
 use Rattle.gup_op_base.specs.Tidy.{IsTidy}
-use Rattle.gup_core.specs.declared.seats.Seat.{Seat}
+use Rattle.gup_op_waits.specs.declared.seats.Seat.{Seat}
 use Rattle.gup_core.specs.Machine.{MachineValue}
 use Rattle.gup_op_waits.specs.Parts.{AreParts, EachSpace}
 

@@ -13,9 +13,8 @@ ghost use Rattle.gup_op_waits.specs.Parts.{EachSpace};
 ghost use Rattle.gup_op_waits.specs.Stands.{StandsAt};
 ghost use Rattle.gup_core.specs.Copies.{IsCopyAt, copying, copied};
 ghost use Rattle.gup_core.specs.Goes.{ShowsAll, all_view, IsForkReady};
-ghost use Rattle.gup_core.specs.Seats.{seat_behind};
+ghost use Rattle.gup_op_waits.specs.Seats.{seat_behind};
 
-use crate::seats::Seat;
 use gup_base::{FrameNo, PageNo, ProcNo, WordNo};
 use gup_op_base::{Head, JobPlace};
 use gup_op_fork::word_turn;

@@ -5,7 +5,6 @@ mod copies;
 mod inner;
 mod machine;
 mod outcome;
-mod seats;
 mod slots;
 mod takes;
 mod turn;

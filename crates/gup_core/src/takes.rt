@@ -36,7 +36,6 @@ ghost use Rattle.gup_op_waits.specs.Stands.{StandsAt};
 ghost use Rattle.gup_core.specs.Goes.{ShowsAll, StandsFree, all_view, IsReady, IsForkReady, IsSingle, IsNoMirror, HasSlots, KeepsSlots};
 ghost use Rattle.gup_op_waits.specs.Locks.{child_in};
 
-use crate::seats::Seat;
 use gup_base::{ActorNo, HandleNo, PageNo, Parts as Moved, ProcNo, Want, Zone};
 use gup_frames::Frames;
 use gup_op_base::{Head, JobPlace};

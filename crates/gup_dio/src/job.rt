@@ -1,5 +1,5 @@
 //! Jobs of direct I/O, and the places of their words.
-ghost use Rattle.std.specs.Prelude.{◌≡◌, ℕ, ◌+◌, ◌/◌, ◌%◌, ◌≤◌, ◌<◌, true, nat_le};
+ghost use Rattle.std.specs.Prelude.{◌≡◌, ℕ, ◌+◌, ◌/◌, ◌%◌, ◌^◌, ◌≤◌, ◌<◌, true, nat_le};
 ghost use Rattle.gup_base.specs.Parts.{words_of, word_at};
 ghost use Rattle.gup_plain.specs.Denial.{has_words, has_slots};
 ghost use Rattle.gup_dio.specs.Job.{job_of, fits_in, are_within};
@@ -15,11 +15,12 @@ const WORDS: u32 = 512;
 #[derive(Debug, Drop)]
 pub struct Job<'a> {
     first_slot: u32,
+    words: u8,
     parts: &'a [(u32, u8)],
 }
 
 impl<'a> Model for Job<'a> {
-    ghost use Rattle.std.specs.Prelude.{◌≤◌};
+    ghost use Rattle.std.specs.Prelude.{◌≡◌, ◌≤◌};
     ghost use Rattle.gup_base.specs.Parts.{words_of};
     ghost use Rattle.gup_dio.specs.Job.{JobValue};
 
@@ -27,7 +28,7 @@ impl<'a> Model for Job<'a> {
 
     ghost view = { λ j. record { first_slot = j.first_slot; parts = j.parts.now } };
 
-    ghost invariant = { λ j. words_of j.parts.now ≤ 64 };
+    ghost invariant = { λ j. (j.words ≡ words_of j.parts.now) × (j.words ≤ 64) };
 }
 
 /// Where a word of a job is: by its number in the pin, from 0 over all the pin's pages, 512 words a page, and in which slot of the store.
@@ -59,9 +60,11 @@ impl<'a> Job<'a> {
         requires { words_of parts.now ≤ 64 }
         ensures { result ≡ job_of first_slot parts.now }
     {
+        let parts = parts.as_slice();
         Job {
             first_slot,
-            parts: parts.as_slice(),
+            words: words_in(parts),
+            parts,
         }
     }
 
@@ -70,23 +73,14 @@ impl<'a> Job<'a> {
         ensures words { result ≡ words_of self.now.parts }
         ensures few { result ≤ 64 }
     {
-        // Most transfers have one part.
-        if let [part] = self.parts {
-            return part.1;
-        }
-        let mut words = 0;
-        for part in self.parts {
-            words += part.1;
-        }
-        words
+        self.words
     }
 
     /// Whether each word of each part is a word of a pin of so many pages, and the store has so many slots that each word has its own.
-    pub fn fits(&self, pages: usize, slots: u16) -> bool
-        requires { pages ≤ 16 }
+    pub fn fits(&self, pages: u8, slots: u16) -> bool
         ensures { result ≡ fits_in pages slots self.now }
     {
-        self.is_within(WORDS * pages as u32) && self.has_slots(slots)
+        self.is_within(WORDS * u32::from(pages)) && self.has_slots(slots)
     }
 
     // Whether each word of each part is among so many.
@@ -102,13 +96,13 @@ impl<'a> Job<'a> {
     fn has_slots(&self, slots: u16) -> bool
         ensures { result ≡ has_slots slots self.now.first_slot self.now.parts }
     {
-        u64::from(self.first_slot) + u64::from(self.words()) <= u64::from(slots)
+        u64::from(self.first_slot) + u64::from(self.words) <= u64::from(slots)
     }
 
     /// Where the word with this number is, from 0: the words of a part follow each other, and behind its last one comes the first of
     /// the next part; their slots follow each other over all parts.
     pub fn at(&self, k: u16) -> Place
-        requires fits { (pages slots : ℕ) × (pages ≤ 16) × (slots ≤ 4096) × (fits_in pages slots self.now ≡ true) }
+        requires fits { (pages slots : ℕ) × (pages < 2 ^ 8) × (slots < 2 ^ 16) × (fits_in pages slots self.now ≡ true) }
         requires within { k < words_of self.now.parts }
         ensures index { result.index ≡ word_at self.now.parts k }
         ensures slot { result.slot ≡ self.now.first_slot + k }
@@ -121,7 +115,7 @@ impl<'a> Job<'a> {
 
     // The number in the pin of the word with this number.
     fn index(&self, k: u16) -> u32
-        requires fits { (pages : ℕ) × (pages ≤ 16) × (has_words pages self.now.parts ≡ true) }
+        requires fits { (pages : ℕ) × (pages < 2 ^ 8) × (has_words pages self.now.parts ≡ true) }
         requires within { k < words_of self.now.parts }
         ensures { result ≡ word_at self.now.parts k }
     {
@@ -138,6 +132,22 @@ impl<'a> Job<'a> {
         }
         unreachable!()
     }
+}
+
+// How many words the parts have.
+fn words_in(parts: &[(u32, u8)]) -> u8
+    requires { words_of parts.now ≤ 64 }
+    ensures { result ≡ words_of parts.now }
+{
+    // Most transfers have one part.
+    if let [part] = parts {
+        return part.1;
+    }
+    let mut words = 0;
+    for part in parts {
+        words += part.1;
+    }
+    words
 }
 
 // Whether the words of the part are among the first `words`.

@@ -1,3 +1,4 @@
 pub mod Handles
 pub mod Kept
 pub mod Shows
+pub mod State

@@ -1,6 +1,7 @@
 //! One handle.
 ghost use Rattle.std.specs.Prelude.{◌≡◌, ℕ, ◌<◌, ◌≤◌, ◌↔◌, length, IsTrue, IsSome, IfSome, OnSome, IfNone, MatchOption, if◌then◌else◌};
 ghost use Rattle.arrayvec.specs.ArrayVec.{array_vec_len};
+ghost use Rattle.gup_handles.specs.State.{state_of, HasFewFrames};
 ghost use Rattle.gup_handles.specs.Handles.{unmade, held, got, IsPinOf, IsHeldBy, IsGotBy, IsGivenTo, given_to, taken_by, without_last, HasLast};
 
 use arrayvec::ArrayVec;
@@ -13,6 +14,28 @@ enum Stage {
     Held(ActorNo),
     Given(ActorNo),
     Got(ActorNo, FrameNo),
+    Gone,
+}
+
+/// What a handle is: a pin that an actor holds or that is given to one, with the frames of its pages in order and whether they may be
+/// written, at least one frame and at most 16, or a reference that an actor got.
+#[derive(Clone, Copy, Debug)]
+pub enum HandleState<'a> {
+    Unmade,
+    Held {
+        by: ActorNo,
+        frames: &'a [FrameNo],
+        write: bool,
+    },
+    Given {
+        to: ActorNo,
+        frames: &'a [FrameNo],
+        write: bool,
+    },
+    Got {
+        by: ActorNo,
+        frame: FrameNo,
+    },
     Gone,
 }
 
@@ -45,6 +68,22 @@ impl Handle {
             stage: Stage::Unmade,
             frames: ArrayVec::new(),
             write: false,
+        }
+    }
+
+    /// What it is.
+    pub(crate) fn state(&self) -> HandleState<'_>
+        ensures state { state_of result ≡ self.now }
+        ensures few { HasFewFrames self.now }
+    {
+        let frames = self.frames.as_slice();
+        let write = self.write;
+        match self.stage {
+            Stage::Unmade => HandleState::Unmade,
+            Stage::Held(by) => HandleState::Held { by, frames, write },
+            Stage::Given(to) => HandleState::Given { to, frames, write },
+            Stage::Got(by, frame) => HandleState::Got { by, frame },
+            Stage::Gone => HandleState::Gone,
         }
     }
 

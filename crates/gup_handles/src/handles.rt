@@ -7,8 +7,9 @@ ghost use Rattle.gup_spec_events.specs.State.{CoreState};
 ghost use Rattle.gup_spec_events.specs.Event.{happens, make_handle, give_handle, take_handle, get_reference, taken_frames, writes_taken};
 ghost use Rattle.gup_handles.specs.Handles.{handles_of, unmade, held, got, IsPinOf, IsHeldBy, IsGotBy, IsGivenTo, given_to, taken_by, without_last, HasLast};
 ghost use Rattle.gup_handles.specs.Shows.{ShowsHandles, IsEvent, drops};
+ghost use Rattle.gup_handles.specs.State.{state_of, HasFewFrames};
 
-use crate::handle::Handle;
+use crate::handle::{Handle, HandleState};
 use arrayvec::ArrayVec;
 use gup_base::{ActorNo, FrameNo, HandleNo, NoMemory};
 use std::alloc::Global;
@@ -62,6 +63,14 @@ impl Handles {
             handles.push(Handle::unmade())?;
         }
         Ok(Handles { handles })
+    }
+
+    /// What the handle is.
+    pub fn state(&self, h: HandleNo) -> HandleState<'_>
+        ensures state { state_of result ≡ handles_of self.now h }
+        ensures few { HasFewFrames (handles_of self.now h) }
+    {
+        self.handles[h.get() as usize].state()
     }
 
     /// The actor holds a pin of these frames by the handle, at least one, in the order of its pages.

@@ -4,4 +4,5 @@
 mod handle;
 mod handles;
 
+pub use handle::HandleState;
 pub use handles::{Handles, NotHeld};

@@ -2,12 +2,11 @@
 use Rattle.std.specs.Prelude.{ℕ, ◌<◌, ◌==◌, ◌&&◌, Bool, false, if◌then◌else◌, List, slice_index_or, Option, Some, None, IsSome, option_map}
 use Rattle.gup_base.specs.declared.entry.Entry.{Entry}
 use Rattle.gup_plain.specs.Put.{within}
+use Rattle.gup_notify.specs.declared.mirrors.Mirror.{Mirror}
 
 -- what a filled slot has: a process, a page of it, and the frame that the page's entry had then
-pub record Filled : Type 0 where
-  pub proc : ℕ
-  pub page : ℕ
-  pub frame : ℕ
+abbrev pub Filled : Type 0
+Filled = Mirror
 
 -- what each slot has, by its number, where it is filled
 abbrev pub MirrorsValue : Type 0

@@ -3,4 +3,4 @@
 
 mod mirrors;
 
-pub use mirrors::Mirrors;
+pub use mirrors::{Mirror, Mirrors};

@@ -20,22 +20,12 @@ use std::marker::Model;
 // How many slots a number can name.
 const SLOTS: usize = 64;
 
-// What a filled slot has: a process, a page of it, and the frame that the page's entry had then.
+/// What a filled slot has: a process, a page of it, and the frame that the page's entry had then.
 #[derive(Clone, Copy, Debug)]
-struct Mirror {
-    proc: ProcNo,
-    page: PageNo,
-    frame: FrameNo,
-}
-
-impl Model for Mirror {
-    ghost use Rattle.gup_notify.specs.Mirrors.{Filled};
-
-    ghost Value = { Filled };
-
-    ghost view = { λ m. record { proc = m.proc; page = m.page; frame = m.frame } };
-
-    ghost inverse = { λ v. record { proc = v.proc; page = v.page; frame = v.frame } };
+pub struct Mirror {
+    pub proc: ProcNo,
+    pub page: PageNo,
+    pub frame: FrameNo,
 }
 
 impl Mirror {
@@ -96,6 +86,14 @@ impl Mirrors {
         ensures { (m : ℕ) → 64 ≤ m → mirrors_of self.now m ≡ None }
     {
         let _slots = &self.slots;
+    }
+
+    /// What the slot is filled with, if it is.
+    #[inline]
+    pub fn slot(&self, m: MirrorNo) -> Option<Mirror>
+        ensures { result ≡ mirrors_of self.now m }
+    {
+        self.slots[m.get() as usize]
     }
 
     /// Fills the slot with this page of the process, whose space this is, and with the frame that the page's entry has now

@@ -85,8 +85,7 @@ pub fn transfer(
 // How many words the store has, if there is one.
 #[inline]
 fn slots_of(store: &Option<Store>) -> u16
-    ensures slots { result ≡ slots_in store.now }
-    ensures few { result ≤ 4096 }
+    ensures { result ≡ slots_in store.now }
 {
     match store {
         Some(store) => store.words(),
@@ -114,7 +113,6 @@ fn find(
     far: u16,
 ) -> Result<Found, Answer>
     requires within { far < words_of job.now.parts }
-    requires few { slots ≤ 4096 }
     ensures refused { IfErr result
         (λ denied. refusal_in (handles_of handles.now handle) actor outward slots job.now.first_slot job.now.parts ≡ Some denied) }
     ensures unrefused { OnOk result
@@ -129,7 +127,7 @@ fn find(
     if !outward && !may_write {
         return Err(Answer::Forbidden);
     }
-    if !job.fits(pages.len(), slots) {
+    if !job.fits(pages.len() as u8, slots) {
         return Err(Answer::Range);
     }
     let place = job.at(far);

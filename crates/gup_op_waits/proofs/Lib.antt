@@ -1,3 +1,4 @@
 pub mod Waits
 pub mod FirstParts
 pub mod ScriptSlots
+pub mod Far

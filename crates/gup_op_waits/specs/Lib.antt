@@ -4,3 +4,4 @@ pub mod Locks
 pub mod Stores
 pub mod Parts
 pub mod Stands
+pub mod Seats

@@ -9,7 +9,7 @@ use gup_script::Script;
 use std::alloc::Global;
 
 /// Whether a process is born.
-#[derive(Clone, Copy, Debug, PartialEq, Eq)]
+#[derive(Clone, Copy, Debug, PartialEq, Eq, Hash)]
 pub enum Birth {
     /// No fork has begun to bring it.
     Unborn,

@@ -16,7 +16,7 @@ use Rattle.gup_core.specs.Goes.{IsForkReady, KeepsSlots}
 use Rattle.gup_core.specs.Going.{CanGo, WritesTurn, MayWakeOf}
 use Rattle.gup_core.specs.Machine.{MachineValue, machine_of, TakesTurns}
 use Rattle.gup_core.specs.Rest.{IsAtRest}
-use Rattle.gup_core.specs.Seats.{seat_behind}
+use Rattle.gup_op_waits.specs.Seats.{seat_behind}
 use Rattle.gup_core.proofs.Advancing.{goes_so, wakes_so}
 use Rattle.gup_core.proofs.Ready.{still_parts, process_within, few}
 use Rattle.gup_core.proofs.Refusing.{of_born}

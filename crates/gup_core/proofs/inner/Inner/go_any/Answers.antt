@@ -7,8 +7,8 @@ use Rattle.gup_core.specs.Machine.{MachineValue, machine_of, TakesTurns}
 use Rattle.gup_core.specs.Going.{CanGo, WaitsFor, WritesTurn, MayWakeOf}
 use Rattle.gup_core.specs.Goes.{IsReady, TakesMirrors}
 use Rattle.gup_core.specs.Rest.{IsAtRest}
-use Rattle.gup_core.specs.Seats.{seat_behind}
-use Rattle.gup_core.specs.declared.seats.Seat.{Seat}
+use Rattle.gup_op_waits.specs.Seats.{seat_behind}
+use Rattle.gup_op_waits.specs.declared.seats.Seat.{Seat}
 use Rattle.gup_core.proofs.Parting.{was_there, now_there, other_there, set_length}
 use Rattle.gup_core.proofs.Turning.{IsTurnWith}
 use Rattle.gup_notify.specs.Mirrors.{mirrors_of}

@@ -6,7 +6,7 @@ use Rattle.gup_spec_journal.specs.Place.{Place}
 use Rattle.gup_op_base.specs.declared.jobs.JobPlace.{JobPlace}
 use Rattle.gup_op_base.specs.declared.jobs.JobPlace.TheVariants.{Unbegun}
 use Rattle.gup_op_base.specs.Far.{far_in}
-use Rattle.gup_core.specs.declared.seats.Seat.{Seat}
+use Rattle.gup_op_waits.specs.declared.seats.Seat.{Seat}
 
 -- the actor stands there
 abbrev pub IsSeat : Option Op → Place → Seat → Type 0

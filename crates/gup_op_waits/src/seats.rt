@@ -2,7 +2,7 @@
 ghost use Rattle.std.specs.Prelude.{◌≡◌, ℕ, ◌+◌, ◌<◌, ◌^◌, length, slice_get, Some, IfOk};
 ghost use Rattle.gup_script.specs.Valid.{IsOp};
 ghost use Rattle.gup_op_base.specs.Far.{HasFar};
-ghost use Rattle.gup_core.specs.Seats.{seat_behind, far_behind, first_seats};
+ghost use Rattle.gup_op_waits.specs.Seats.{seat_behind, far_behind, first_seats};
 
 use gup_base::{ActorNo, NoMemory};
 use gup_op_base::JobPlace;
@@ -31,6 +31,8 @@ pub fn first(alloc: Global, actors: u8) -> Result<Vec<Seat>, NoMemory>
     Ok(seats)
 }
 
+/// Where the actor stands.
+#[inline]
 pub fn seat_of(seats: &Vec<Seat>, actor: ActorNo) -> Seat
     requires { actor < length seats.now.items }
     ensures { slice_get seats.now.items actor ≡ Some result }
@@ -39,6 +41,7 @@ pub fn seat_of(seats: &Vec<Seat>, actor: ActorNo) -> Seat
 }
 
 /// From now on the actor stands there.
+#[inline]
 pub fn set_seat(seats: &mut Vec<Seat>, actor: ActorNo, seat: &Seat)
     requires { actor < length seats.old.items }
     ensures many { length seats.new.items ≡ length seats.old.items }

@@ -1,8 +1,8 @@
 use Rattle.std.proofs.Common.{◌≡◌, ◌+◌, ◌≤◌, refl, ap, ◌∙◌, inl, inr, arith}
 use Rattle.gup_script.specs.declared.op.Op.{Op}
-use Rattle.gup_core.specs.Seats.{far_behind}
-use Rattle.gup_core.proofs.Scripts.{far_below}
-use Rattle.gup_core.proofs.seats.far_of.Goals as goal
+use Rattle.gup_op_waits.specs.Seats.{far_behind}
+use Rattle.gup_op_waits.proofs.Far.{far_below}
+use Rattle.gup_op_waits.proofs.seats.far_of.Goals as goal
 
 pub overflow_add-result : goal.overflow_add-result
 overflow_add-result c =
