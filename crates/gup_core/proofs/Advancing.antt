@@ -42,7 +42,8 @@ still_taken m a seat turns what here count still r h =
     let is = still r h in
     record {
       said = says_so m r a seat turns (record { events = []; whats = what ∷ [] }) (what ∷ []) h here count is.0 refl;
-      shown = stays m r a seat turns what h here count is.0 is.1;
+      shown = stays m r a seat turns what h here is.0 is.1;
+      counted = count;
     }
 
 -- the turn of an actor that waits changes nothing

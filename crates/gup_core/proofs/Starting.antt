@@ -38,5 +38,4 @@ shows_start script parts mirrors seats n shown empty first =
       seats = λ a seat here. first_seat script a seat (one_of_first n seats a seat first here);
       jobs = λ a seat here. ap (λ (s : Seat). place_of s.job) (one_of_first n seats a seat first here);
       ends = λ a handle page k want fast seat here is. subst (λ (s : Seat). EndAt (last_page s.job) []) (sym (one_of_first n seats a seat first here)) tt;
-      turns = refl;
     }

@@ -47,18 +47,14 @@ use Rattle.gup_core.proofs.Notes.{NoTwo, turn_two}
 use Rattle.gup_core.proofs.Resting.{Stand, standing, reached_behind, op_there, stands_at}
 use Rattle.gup_core.proofs.Turning.{IsTurnWith, differ, replaced}
 
--- the number of the next turn
-counted_next : (m t : ℕ) → m ≡ min t (2 ^ 32 - 1) → counted m ≡ min (t + 1) (2 ^ 32 - 1)
-counted_next m t is = grind (arith, nat_tests)
-
 -- What the machine is after a turn t of an actor shows the state after it.
 shows_behind : (m : MachineValue) (parts : Parts) (mirrors : List (Option Filled)) (seats : List Seat) (turns : ℕ) (r : RunState) (a : ℕ) (t : CoreTurn)
-    → core_turn_in m.script r a ≡ t → Shows m r → turns ≡ counted m.turns → ShowsParts parts (run r.core t.events) → ShowsMirrors (mirrors_of mirrors) (run r.core t.events)
+    → core_turn_in m.script r a ≡ t → Shows m r → ShowsParts parts (run r.core t.events) → ShowsMirrors (mirrors_of mirrors) (run r.core t.events)
     → ((b : ℕ) (seat : Seat) → slice_get seats b ≡ Some seat → IsSeat (present_op m.script b (places_behind r.places (record { actor = a; whats = t.whats }) b)) (places_behind r.places (record { actor = a; whats = t.whats }) b) seat)
     → ((b : ℕ) (seat : Seat) → slice_get seats b ≡ Some seat → place_of seat.job ≡ place_in (run r.core t.events) b)
     → ((b handle page n : ℕ) (want : Want) (fast : Bool) (seat : Seat) → slice_get seats b ≡ Some seat → present_op m.script b (places_behind r.places (record { actor = a; whats = t.whats }) b) ≡ Some (Pin handle page n want fast) → EndAt (last_page seat.job) ((run r.core t.events).taken b))
     → Shows (machine_of m.script parts mirrors seats turns) (run_after m.script r a)
-shows_behind m parts mirrors seats turns r a t is h count shown slots places jobs ends =
+shows_behind m parts mirrors seats turns r a t is h shown slots places jobs ends =
     let behind : CoreTurn → RunState =
     λ u. record {
       core = run r.core u.events;
@@ -75,7 +71,6 @@ shows_behind m parts mirrors seats turns r a t is h count shown slots places job
       jobs = subst (λ (u : CoreTurn). (b : ℕ) (seat : Seat) → slice_get seats b ≡ Some seat → place_of seat.job ≡ place_in (behind u).core b) (sym is) jobs;
       ends =
           subst (λ (u : CoreTurn). (b handle page n : ℕ) (want : Want) (fast : Bool) (seat : Seat) → slice_get seats b ≡ Some seat → present_op m.script b ((behind u).places b) ≡ Some (Pin handle page n want fast) → EndAt (last_page seat.job) ((behind u).core.taken b)) (sym is) ends;
-      turns = count ∙ counted_next m.turns r.turns h.turns;
     }
 
 -- the actor's place is changed, and its seat with it
@@ -125,11 +120,11 @@ same_places script places a what same b = go (b == a) refl
     go false is = refl
 
 -- a turn without an event leaves all but its number
-pub stays : (m : MachineValue) (r : RunState) (a : ℕ) (seat : Seat) (turns : ℕ) (what : What) → Shows m r → slice_get m.seats a ≡ Some seat → turns ≡ counted m.turns
+pub stays : (m : MachineValue) (r : RunState) (a : ℕ) (seat : Seat) (turns : ℕ) (what : What) → Shows m r → slice_get m.seats a ≡ Some seat
     → core_turn_in m.script r a ≡ record { events = []; whats = what ∷ [] } → place_behind (r.places a) (what ∷ []) ≡ r.places a
     → Shows (machine_of m.script m.parts m.mirrors m.seats turns) (run_after m.script r a)
-stays m r a seat turns what h here count is same =
-    shows_behind m m.parts m.mirrors m.seats turns r a (record { events = []; whats = what ∷ [] }) is h count h.parts h.mirrors
+stays m r a seat turns what h here is same =
+    shows_behind m m.parts m.mirrors m.seats turns r a (record { events = []; whats = what ∷ [] }) is h h.parts h.mirrors
     (seats_behind m.script r.places m.seats m.seats a (record { actor = a; whats = what ∷ [] }) seat refl h.seats (λ b apart. refl) here
     (subst (λ (x : Place). IsSeat (present_op m.script a x) x seat) (sym same) (h.seats a seat here)))
     h.jobs (λ b handle page n want fast s found now. h.ends b handle page n want fast s found (sym (ap (present_op m.script b) (same_places m.script r.places a what same b)) ∙ now))
@@ -149,7 +144,8 @@ idles m a seat turns here none count r h =
     ap (λ o. core_turn_by r.core (doer_of m.script a o) (r.places a).far o (waiting_in m.script r a)) (op_there m r a seat None h here none) in
     record {
       said = says_so m r a seat turns (record { events = []; whats = Idle ∷ [] }) (Idle ∷ []) h here count is refl;
-      shown = stays m r a seat turns Idle h here count is refl;
+      shown = stays m r a seat turns Idle h here is refl;
+      counted = count;
     }
 
 -- what is known of the actor's waiting from every state that the machine shows
@@ -177,7 +173,8 @@ waits m a seat op turns waiting here present count waiting_so r h =
     ∙ ap (λ w. core_turn_by r.core (doer_of m.script a (Some op)) (r.places a).far (Some op) w) (sym (waiting_so r h)) in
     record {
       said = says_so m r a seat turns (record { events = []; whats = Wait waiting ∷ [] }) (Wait waiting ∷ []) h here count is refl;
-      shown = stays m r a seat turns (Wait waiting) h here count is refl;
+      shown = stays m r a seat turns (Wait waiting) h here is refl;
+      counted = count;
     }
 
 -- ---- a turn of an operation
@@ -311,7 +308,7 @@ goes m a proc seat next op parts mirrors seats turns said job stand empties rest
     record {
       said = says_so m r a seat turns t (whats_of said) h here count is led.says;
       shown =
-          shows_behind m parts mirrors seats turns r a t is h count led.shown.parts (slots r.core who far forks r.core.taken refl of_a at.1 shown stands_with emptied)
+          shows_behind m parts mirrors seats turns r a t is h led.shown.parts (slots r.core who far forks r.core.taken refl of_a at.1 shown stands_with emptied)
           (seats_behind m.script r.places m.seats seats a (record { actor = a; whats = t.whats }) (seat_behind seat op (is_some said.answer) job) refl h.seats unseated seated_so
           (subst (λ (ws : List What). IsSeat (present_op m.script a (place_behind (r.places a) ws)) (place_behind (r.places a) ws) (seat_behind seat op (is_some said.answer) job)) (sym led.says)
           (seat_next m.script a (r.places a) seat op job said.event said.next said.answer op_is at two)))
@@ -326,6 +323,7 @@ goes m a proc seat next op parts mirrors seats turns said job stand empties rest
             | inr first ↦ none_left job ((run r.core t.events).taken a) (led.shown.job ∙ rests_then first)
           ])))
           led.shown.left);
+      counted = count;
     }
   where
     some_op : {o x : Op} → Some o ≡ Some x → o ≡ x

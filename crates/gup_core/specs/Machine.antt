@@ -47,7 +47,7 @@ free_frames_in s zone =
 abbrev pub IsReached : ScriptValue → RunState → Type 0
 IsReached script r = (actors : List ℕ) × (r ≡ turned script (run_start script) actors)
 
--- Turns lead to this state of the core run, and it is as the machine has it.
+-- Turns lead to this state of the core run, and it is as the machine has it. How many they were, the machine counts beside.
 pub record Shows (m : MachineValue) (r : RunState) : Type 0 where
   pub reached : IsReached m.script r
   pub parts : ShowsParts m.parts r.core
@@ -55,13 +55,13 @@ pub record Shows (m : MachineValue) (r : RunState) : Type 0 where
   pub seats : (a : ℕ) (seat : Seat) → slice_get m.seats a ≡ Some seat → IsSeat (present_op m.script a (r.places a)) (r.places a) seat
   pub jobs : (a : ℕ) (seat : Seat) → slice_get m.seats a ≡ Some seat → place_of seat.job ≡ place_in r.core a
   pub ends : (a handle page n : ℕ) (want : Want) (fast : Bool) (seat : Seat) → slice_get m.seats a ≡ Some seat → present_op m.script a (r.places a) ≡ Some (Pin handle page n want fast) → EndAt (last_page seat.job) (r.core.taken a)
-  pub turns : m.turns ≡ min r.turns (2 ^ 32 - 1)
 
--- A turn of the machine is the actor's turn of the core run from r: the notes are its, and the machine shows the
--- state after it.
+-- A turn of the machine is the actor's turn of the core run from r: it is counted, the notes are its, and the machine shows
+-- the state after it.
 pub record TakesTurn (old new : MachineValue) (actor : ℕ) (r : RunState) (notes : List NoteValue) : Type 0 where
   pub said : notes ≡ notes_of_turn (counted old.turns) actor ((r.places actor).answered + 1) (core_turn_in old.script r actor).whats
   pub shown : Shows new (run_after old.script r actor)
+  pub counted : new.turns ≡ counted old.turns
 
 -- so it is from each state that the machine shows
 abbrev pub TakesTurns : (old new : MachineValue) → (actor : ℕ) → List NoteValue → Type 0

@@ -18,6 +18,21 @@ lowest_free_is l room free a b kept first n inside =
     lowest_same first n (has free) (λ f. eqb (get_or l.counts f 0) 0)
     (λ j above below. kept.set j ∙ ap (λ c. eqb c 0) (get_or_default l.counts j 1 0 (omega arith)))
 
+-- other words are kept as well, if they are of no more frames
+pub kept-words : (l : FrameLists) (room : ℕ) (free : List ℕ) (a b : ℕ) → IsKept l room free a b → (words : List ℕ) (room_now : ℕ) → room ≤ room_now → length words ≤ 512 * (l.movable + l.normal)
+    → IsKept (record { movable = l.movable; normal = l.normal; counts = l.counts; marks = l.marks; words = words }) room_now free a b
+kept-words l room free a b kept words room_now roomy few_words =
+    record {
+      few = kept.few;
+      counts = kept.counts;
+      marks = kept.marks;
+      words = omega (arith, kept.words, roomy);
+      few_words = few_words;
+      set = kept.set;
+      movable = kept.movable;
+      normal = kept.normal;
+    }
+
 -- ---- a frame is taken, or freed
 
 module _ (l : FrameLists) (room : ℕ) (free : List ℕ) (a b f : ℕ) (kept : IsKept l room free a b) (inside : f < l.movable + l.normal) where
@@ -26,12 +41,13 @@ module _ (l : FrameLists) (room : ℕ) (free : List ℕ) (a b f : ℕ) (kept : I
       let len : length l.counts ≡ l.movable + l.normal = kept.counts in
       get_or-set_same l.counts f count d (omega arith)
 
-  pub kept-changed : (new words : List ℕ) (room_now count : ℕ) (mark : Bool) (a' b' : ℕ) → room ≤ room_now → has new ≡ put f (eqb count 0) (has free) → a' ≡ free_in (frames_of record { movable = l.movable; normal = l.normal; counts = set l.counts f count; marks = set l.marks f mark; words = words }) 0 l.movable → b' ≡ free_in (frames_of record { movable = l.movable; normal = l.normal; counts = set l.counts f count; marks = set l.marks f mark; words = words }) l.movable l.normal → IsKept (record { movable = l.movable; normal = l.normal; counts = set l.counts f count; marks = set l.marks f mark; words = words }) room_now new a' b'
-  kept-changed new words room_now count mark a' b' roomy bits movable normal = record {
+  pub kept-changed : (new words : List ℕ) (room_now count : ℕ) (mark : Bool) (a' b' : ℕ) → room ≤ room_now → length words ≤ 512 * (l.movable + l.normal) → has new ≡ put f (eqb count 0) (has free) → a' ≡ free_in (frames_of record { movable = l.movable; normal = l.normal; counts = set l.counts f count; marks = set l.marks f mark; words = words }) 0 l.movable → b' ≡ free_in (frames_of record { movable = l.movable; normal = l.normal; counts = set l.counts f count; marks = set l.marks f mark; words = words }) l.movable l.normal → IsKept (record { movable = l.movable; normal = l.normal; counts = set l.counts f count; marks = set l.marks f mark; words = words }) room_now new a' b'
+  kept-changed new words room_now count mark a' b' roomy few_words bits movable normal = record {
     few = kept.few;
     counts = length-set l.counts f count ∙ kept.counts;
     marks = length-set l.marks f mark ∙ kept.marks;
     words = omega (arith, kept.words);
+    few_words = few_words;
     set = λ j.
         ⊎_elim
         (λ (e : j ≡ f).
@@ -113,8 +129,8 @@ zeros n j =
     (λ (h : n ≤ j). let len : length (replicate {A = ℕ} n 0) ≡ n = length-replicate {A = ℕ} n 0 in get_or_past (replicate n 0) j 0 (omega arith))
     (cases_lt j n)
 
-pub kept-new : (m n room : ℕ) (counts words : List ℕ) (marks : List Bool) (free : List ℕ) → m + n ≤ 1024 → counts ≡ replicate (m + n) 0 → length marks ≡ m + n → 512 * (m + n) ≤ room → has free ≡ (λ k. ltb k (m + n)) → IsKept (record { movable = m; normal = n; counts = counts; marks = marks; words = words }) room free m n
-kept-new m n room counts words marks free few is len_marks roomy bits =
+pub kept-new : (m n room : ℕ) (counts words : List ℕ) (marks : List Bool) (free : List ℕ) → m + n ≤ 1024 → counts ≡ replicate (m + n) 0 → length marks ≡ m + n → 512 * (m + n) ≤ room → length words ≤ 512 * (m + n) → has free ≡ (λ k. ltb k (m + n)) → IsKept (record { movable = m; normal = n; counts = counts; marks = marks; words = words }) room free m n
+kept-new m n room counts words marks free few is len_marks roomy few_words bits =
     let none : (j : ℕ) → get_or counts j 0 ≡ 0 = λ j. rw is (zeros (m + n) j) in
     let len : length counts ≡ m + n = rw is (length-replicate {A = ℕ} (m + n) 0) in
     let s : FramesValue = frames_of record { movable = m; normal = n; counts = counts; marks = marks; words = words } in record {
@@ -122,6 +138,7 @@ kept-new m n room counts words marks free few is len_marks roomy bits =
       counts = len;
       marks = len_marks;
       words = roomy;
+      few_words = few_words;
       set = λ j.
           ap (λ h. h j) bits
           ∙ (⊎_elim

@@ -134,13 +134,15 @@ impl Frames {
         words::read(&self.words, frame.get() as usize, word)
     }
 
-    /// A law: a frame that has a reference is there, and so is one that is marked.
+    /// A law: a frame that has a reference is there, and so is one that is marked, or has a word that isn't 0.
     pub fn are_there(&self)
         ensures held { (f : ℕ) → ((frames_of self.now).count f ≡ 0 → ⊥) → IsFrame (frames_of self.now) f }
         ensures marked { (f : ℕ) → (frames_of self.now).mark f ≡ true → IsFrame (frames_of self.now) f }
+        ensures written { (f w : ℕ) → ((frames_of self.now).word f w ≡ 0 → ⊥) → IsFrame (frames_of self.now) f × (w < 512) }
     {
         let _counts = &self.counts;
         let _marks = &self.marks;
+        let _words = &self.words;
     }
 
     /// How many frames of the zone are free.

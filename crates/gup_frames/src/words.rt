@@ -38,6 +38,7 @@ fn reach(words: &mut Vec<u64>, frame: usize)
     ensures words { word_in words.new.items ≡ word_in words.old.items }
     ensures reached { 512 * (frame + 1) ≤ vec_len words.new }
     ensures longer { vec_len words.old ≤ vec_len words.new }
+    ensures within { (frames : ℕ) → frame < frames → vec_len words.old ≤ 512 * frames → vec_len words.new ≤ 512 * frames }
     ensures room { vec_capacity words.old ≤ vec_capacity words.new }
 {
     let end = of_frames(frame + 1);
@@ -64,6 +65,7 @@ fn write_first(words: &mut Vec<u64>, frame: usize, word: WordNo, v: u64)
     requires few { frame < 1024 }
     requires room { 512 * (frame + 1) ≤ vec_capacity words.old }
     ensures words { word_in words.new.items ≡ put2 frame word v (word_in words.old.items) }
+    ensures within { (frames : ℕ) → frame < frames → vec_len words.old ≤ 512 * frames → vec_len words.new ≤ 512 * frames }
     ensures room { vec_capacity words.old ≤ vec_capacity words.new }
 {
     reach(words, frame);
@@ -76,6 +78,7 @@ pub(crate) fn write(words: &mut Vec<u64>, frame: usize, word: WordNo, v: u64)
     requires few { frame < 1024 }
     requires room { 512 * (frame + 1) ≤ vec_capacity words.old }
     ensures words { word_in words.new.items ≡ put2 frame word v (word_in words.old.items) }
+    ensures within { (frames : ℕ) → frame < frames → vec_len words.old ≤ 512 * frames → vec_len words.new ≤ 512 * frames }
     ensures room { vec_capacity words.old ≤ vec_capacity words.new }
 {
     let place = WORDS * frame + word.get() as usize;
@@ -91,6 +94,7 @@ pub(crate) fn clear(words: &mut Vec<u64>, frame: usize)
     requires few { frame < 1024 }
     requires room { 512 * (frame + 1) ≤ vec_capacity words.old }
     ensures words { word_in words.new.items ≡ put frame (λ _. 0) (word_in words.old.items) }
+    ensures within { (frames : ℕ) → frame < frames → vec_len words.old ≤ 512 * frames → vec_len words.new ≤ 512 * frames }
     ensures room { vec_capacity words.old ≤ vec_capacity words.new }
 {
     let first = WORDS * frame;
@@ -108,6 +112,7 @@ pub(crate) fn copy(words: &mut Vec<u64>, from: usize, to: usize)
     requires from { 512 * (from + 1) ≤ vec_capacity words.old }
     requires to { 512 * (to + 1) ≤ vec_capacity words.old }
     ensures words { word_in words.new.items ≡ put to (word_in words.old.items from) (word_in words.old.items) }
+    ensures within { (frames : ℕ) → from < frames → to < frames → vec_len words.old ≤ 512 * frames → vec_len words.new ≤ 512 * frames }
     ensures room { vec_capacity words.old ≤ vec_capacity words.new }
 {
     reach(words, from);

@@ -65,6 +65,13 @@ impl Handles {
         Ok(Handles { handles })
     }
 
+    /// A law: no handle is made but the 1,024.
+    pub fn are_numbered(&self)
+        ensures { (h : ℕ) → 1024 ≤ h → handles_of self.now h ≡ unmade }
+    {
+        let _handles = &self.handles;
+    }
+
     /// What the handle is.
     pub fn state(&self, h: HandleNo) -> HandleState<'_>
         ensures state { state_of result ≡ handles_of self.now h }

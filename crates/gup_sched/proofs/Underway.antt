@@ -1,6 +1,7 @@
 -- The loops over the turns: what is true between two of them.
 use Rattle.std.proofs.Common.{◌≡◌, ℕ, ◌+◌, ◌-◌, ◌*◌, ◌^◌, ◌<◌, ◌≤◌, Bool, true, false, List, [], ◌∷◌, ◌++◌, Option, Some, None, slice_get, length, refl, sym, ap, subst, ◌∙◌, arith, append_assoc, append-nil}
 use Rattle.std.proofs.lemmas.Bool.Decides.{nat_tests}
+use Rattle.std.specs.Prelude.{min}
 use Rattle.std.proofs.lemmas.Option.{slice_get_past}
 use Rattle.gup_plain.specs.Note.{NoteValue}
 use Rattle.gup_script.specs.Script.{ScriptValue}
@@ -13,11 +14,12 @@ use Rattle.gup_law_turns.specs.Standing.{IsStanding}
 use Rattle.gup_core.specs.Machine.{MachineValue, Shows, TakesTurn, IsNew, counted}
 use Rattle.gup_sched.proofs.NextActors.{pointed_goes}
 
--- The machine shows a state that turns led to from the start, and whatever run goes on from there is, after the notes
+-- The machine shows a state that turns led to from the start, and has counted them, and whatever run goes on from there is, after the notes
 -- so far, the script's.
 pub record Underway (script : ScriptValue) (m : MachineValue) (notes : List NoteValue) (r : RunState) : Type 0 where
   pub same : m.script ≡ script
   pub shown : Shows m r
+  pub counts : m.turns ≡ min r.turns (2 ^ 32 - 1)
   pub actors : List ℕ
   pub reached : turned script (run_start script) actors ≡ r
   pub goes_on : (ts : List Turn) (end : RunState) → Runs script r ts end → IsCoreRun script (notes ++ journal_of (r.turns + 1) r.places ts) end
@@ -27,10 +29,15 @@ underway_first script m new =
     record {
       same = new.script;
       shown = new.shown;
+      counts = new.turns;
       actors = [];
       reached = refl;
       goes_on = λ ts end runs. (ts, refl, runs);
     }
+
+-- the number of the next turn
+counted_next : (m t : ℕ) → m ≡ min t (2 ^ 32 - 1) → counted m ≡ min (t + 1) (2 ^ 32 - 1)
+counted_next m t is = grind (arith, nat_tests)
 
 turned_on : (script : ScriptValue) (r : RunState) (actors : List ℕ) (a : ℕ) → turned script r (actors ++ a ∷ []) ≡ run_after script (turned script r actors) a
 turned_on script r [] a = refl
@@ -38,7 +45,7 @@ turned_on script r (b ∷ actors) a = turned_on script (run_after script r b) ac
 
 pub underway_turn : (script : ScriptValue) (m n : MachineValue) (notes told : List NoteValue) (r : RunState) (a : ℕ) → next_actor script r ≡ Some a → r.turns < 2 ^ 32 - 1 → n.script ≡ m.script → TakesTurn m n a r told → Underway script m notes r → Underway script n (notes ++ told) (run_after script r a)
 underway_turn script m n notes told r a next few kept taken u =
-    let number : counted m.turns ≡ r.turns + 1 = let shown = u.shown.turns in grind (arith, nat_tests) in
+    let number : counted m.turns ≡ r.turns + 1 = let counts = u.counts in grind (arith, nat_tests) in
     let said : told ≡ notes_of_turn (r.turns + 1) a ((r.places a).answered + 1) (core_turn_in script r a).whats =
     taken.said
     ∙ ap (λ (k : ℕ). notes_of_turn k a ((r.places a).answered + 1) (core_turn_in m.script r a).whats) number
@@ -46,6 +53,7 @@ underway_turn script m n notes told r a next few kept taken u =
     record {
       same = kept ∙ u.same;
       shown = subst (λ (s : ScriptValue). Shows n (run_after s r a)) u.same taken.shown;
+      counts = taken.counted ∙ counted_next m.turns r.turns u.counts;
       actors = u.actors ++ a ∷ [];
       reached = turned_on script (run_start script) u.actors a ∙ ap (λ (s : RunState). run_after script s a) u.reached;
       goes_on =
@@ -151,8 +159,8 @@ pointed_turn script costs m n notes told pointer r a is kept takes h =
     let far = h.written in
     let bound = costs.few in
     let few : r.turns < 2 ^ 32 - 1 = omega (arith, cheap, bound) in
-    let before : m.turns ≡ r.turns = let shown = h.underway.shown.turns in grind (arith, nat_tests) in
-    let after : n.turns ≡ r.turns + 1 = let shown = (subst (λ (s : ScriptValue). Shows n (run_after s r a)) h.underway.same takes.shown).turns in grind (arith, nat_tests) in (
+    let before : m.turns ≡ r.turns = let counts = h.underway.counts in grind (arith, nat_tests) in
+    let after : n.turns ≡ r.turns + 1 = let counts = h.underway.counts in let one = takes.counted in grind (arith, nat_tests) in (
       record {
         underway = underway_turn script m n notes told r a next few kept takes h.underway;
         pointer = ap (λ (o : Option ℕ). pointer_after (length script.actors) r.pointer o a) written;
@@ -179,7 +187,7 @@ few_turns script m notes from r costs h =
 -- and the machine has counted each of them
 pub counts_turns : (script : ScriptValue) (m : MachineValue) (notes : List NoteValue) (from : ℕ) (r : RunState) → HasCosts script → IsPointed script m notes from r → m.turns ≡ r.turns
 counts_turns script m notes from r costs h =
-    let shown = h.underway.shown.turns in
+    let counts = h.underway.counts in
     let cheap = h.cheap in
     let few = costs.few in
     grind (arith, nat_tests)

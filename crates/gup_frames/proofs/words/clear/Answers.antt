@@ -22,3 +22,8 @@ returns-after-loop-word-clause-words c =
 
 pub returns-else-first-len-clause-words : goal.returns-else-first-len-clause-words
 returns-else-first-len-clause-words c = unwritten c.args.words.now.items c.args.frame (omega (arith, c.len.ensures))
+
+pub returns-after-loop-word-clause-within : goal.returns-after-loop-word-clause-within
+returns-after-loop-word-clause-within c frames there few =
+    let reached = c.reach.ensures.within frames there few in
+    omega (arith, reached, c.loop-word.invariant.1)

@@ -1,0 +1,13 @@
+//! The image of a machine between two turns: a list of facts, of which no two machines have the same that differ in anything that a
+//! turn reads.
+#![tactic(auto)]
+
+mod actors;
+mod fact;
+mod frames;
+mod handles;
+mod image;
+mod processes;
+
+pub use fact::Fact;
+pub use image::image;
