@@ -2,7 +2,7 @@
 use Rattle.std.specs.Prelude.{ℕ, List, [], ◌++◌, Option, Some, None, length, slice_get, zero, suc}
 
 -- what there is of each number below n, one after another
-abbrev pub gathered : {X : Type 0} → (of : ℕ → List X) → (n : ℕ) → List X
+unfoldable pub gathered : {X : Type 0} → (of : ℕ → List X) → (n : ℕ) → List X
 gathered of zero = []
 gathered of (suc n) = gathered of n ++ of n
 

@@ -1,11 +1,11 @@
 -- The image of a machine: the facts of its parts.
-use Rattle.std.specs.Prelude.{ℕ, Bool, true, false, List, [], ◌∷◌, ◌++◌, Option, Some, None, slice_get, zero, suc}
+use Rattle.std.specs.Prelude.{◌≡◌, ℕ, ◌<◌, ◌≤◌, Bool, true, false, List, [], ◌∷◌, ◌++◌, Option, Some, None, slice_get, zero, suc}
 use Rattle.arrayvec.specs.ArrayVec.{ArrayVec}
 use Rattle.gup_base.specs.declared.entry.Entry.{Entry}
 use Rattle.gup_base.specs.declared.entry.Rights.{Rights}
 use Rattle.gup_plain.specs.Event.{words, page_numbers}
 use Rattle.gup_script.specs.Limits.{most_handles, most_mirrors}
-use Rattle.gup_frames.specs.Frames.{FramesValue, frames_of, frames_in}
+use Rattle.gup_frames.specs.Frames.{FramesValue, frames_of, frames_in, IsFrame}
 use Rattle.gup_space.specs.Space.{SpaceValue, SpaceParts, space_of}
 use Rattle.gup_handles.specs.Handles.{HandleValue, unmade, held, given, got, gone, handles_of}
 use Rattle.gup_notify.specs.Mirrors.{Filled as FilledSlot, mirrors_of}
@@ -104,3 +104,11 @@ image_of parts mirrors seats =
     ++ along (λ a (pages : ArrayVec ℕ). along (λ k frame. Taken a k frame ∷ []) pages.items) parts.taken.items
     ++ along store_facts parts.stores.items
     ++ along seat_fact seats
+
+-- Nothing is past what an image goes over: there are no other frames, words of a frame, handles and slots.
+pub record HasNoMore (parts : Parts) (mirrors : List (Option FilledSlot)) : Type 0 where
+  pub counted : (f : ℕ) → ((frames_of parts.frames).count f ≡ 0 → ⊥) → IsFrame (frames_of parts.frames) f
+  pub marked : (f : ℕ) → (frames_of parts.frames).mark f ≡ true → IsFrame (frames_of parts.frames) f
+  pub written : (f w : ℕ) → ((frames_of parts.frames).word f w ≡ 0 → ⊥) → IsFrame (frames_of parts.frames) f × (w < words)
+  pub handles : (h : ℕ) → most_handles ≤ h → handles_of parts.handles h ≡ unmade
+  pub slots : (m : ℕ) → most_mirrors ≤ m → mirrors_of mirrors m ≡ None

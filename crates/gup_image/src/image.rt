@@ -1,0 +1,52 @@
+//! The image of all parts.
+ghost use Rattle.std.specs.Prelude.{◌≡◌, ℕ, ◌≤◌, length, IfOk, OnOk};
+ghost use Rattle.gup_space.specs.Space.{AreMapped};
+ghost use Rattle.gup_op_base.specs.Tidy.{AreNumbered};
+ghost use Rattle.gup_op_waits.specs.Parts.{EachSpace};
+ghost use Rattle.gup_image.specs.Image.{image_of, HasNoMore};
+
+use crate::actors::{push_seats, push_stores, push_taken};
+use crate::fact::Fact;
+use crate::frames::push_frames;
+use crate::handles::{push_handles, push_slots};
+use crate::processes::push_processes;
+use gup_base::NoMemory;
+use gup_notify::Mirrors;
+use gup_op_waits::Parts;
+use gup_op_waits::seats::Seat;
+use std::alloc::Global;
+
+/// The facts of a machine that is made of these, in a fixed order: two machines have the same facts exactly where they show the same
+/// states (the laws of `gup_law_image`).
+pub fn image(
+    alloc: Global,
+    parts: &Parts,
+    mirrors: &Mirrors,
+    seats: &Vec<Seat>,
+) -> Result<Vec<Fact>, NoMemory>
+    requires processes { length parts.now.spaces.items ≤ 16 }
+    requires births { length parts.now.births.items ≡ length parts.now.spaces.items }
+    requires taken { length parts.now.taken.items ≤ 81 }
+    requires stores { length parts.now.stores.items ≤ 81 }
+    requires seats { length seats.now.items ≤ 81 }
+    requires numbered { EachSpace AreNumbered parts.now.spaces.items }
+    ensures image { IfOk result (λ facts. facts.items ≡ image_of parts.now mirrors.now seats.now.items) }
+    ensures whole { HasNoMore parts.now mirrors.now }
+{
+    parts.frames.are_there();
+    parts.handles.are_numbered();
+    mirrors.are_numbered();
+    let mut facts = Vec::new(alloc);
+    facts.push(Fact::Zones {
+        movable: parts.frames.movable(),
+        normal: parts.frames.normal(),
+    })?;
+    push_frames(&mut facts, &parts.frames)?;
+    push_processes(&mut facts, parts)?;
+    push_handles(&mut facts, &parts.handles)?;
+    push_slots(&mut facts, mirrors)?;
+    push_taken(&mut facts, &parts.taken)?;
+    push_stores(&mut facts, &parts.stores)?;
+    push_seats(&mut facts, seats)?;
+    Ok(facts)
+}
