@@ -4,3 +4,4 @@ pub mod Rest
 pub mod Going
 pub mod Waking
 pub mod Copies
+pub mod Images

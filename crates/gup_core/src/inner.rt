@@ -9,6 +9,7 @@ ghost use Rattle.gup_op_waits.specs.declared.seats.Seat.{Seat as SeatValue};
 ghost use Rattle.gup_core.specs.Copies.{is_copying};
 ghost use Rattle.gup_core.specs.Going.{Advances, WritesTurn, HasMore, IsMoved, IsStill, KeepsRoom};
 ghost use Rattle.gup_core.specs.Rest.{IsAtRest};
+ghost use Rattle.gup_core.specs.Images.{IsImage};
 
 use crate::copies::{copy_at, seat_after, take_copy};
 use crate::outcome::{Advanced, Woken, woken_by};
@@ -16,6 +17,7 @@ use crate::slots::take_turn;
 use crate::takes::waits_at;
 use crate::turns::{next_turn, op_at, ops, process};
 use gup_base::{ActorNo, NoMemory, Zone};
+use gup_image::{Fact, image};
 use gup_notify::Mirrors;
 use gup_op_base::{Head, JobPlace};
 use gup_op_waits::parts::{self, Parts};
@@ -268,6 +270,15 @@ impl Inner {
         ensures { (r : RunState) → Shows self.now r → result ≡ free_frames_in r.core zone }
     {
         self.parts.frames.free(zone)
+    }
+
+    /// The image.
+    pub(crate) fn image(&self, alloc: Global) -> Result<Vec<Fact>, NoMemory>
+        ensures { IfOk result (λ facts. IsImage self.now facts.items) }
+    {
+        self.rests();
+        let _actors = self.script.actors();
+        image(alloc, &self.parts, &self.mirrors, &self.seats)
     }
 
     // Where the actor stands.

@@ -10,6 +10,6 @@ mod takes;
 mod turn;
 mod turns;
 
-pub use machine::Machine;
+pub use machine::{Machine, images_are_exact, images_are_of_states};
 pub use outcome::{Advanced, Woken};
 pub use turn::Turn;

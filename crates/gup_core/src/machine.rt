@@ -1,14 +1,20 @@
 //! The machine of a script, for many processes and actors.
-ghost use Rattle.std.specs.Prelude.{◌≡◌, ℕ, ◌<◌, [], length, IfOk, OnOk, OnErr};
+ghost use Rattle.std.specs.Prelude.{◌≡◌, ℕ, ◌<◌, List, [], length, IfOk, OnOk, OnErr};
 ghost use Rattle.gup_spec_journal.specs.Place.{has_finished};
 ghost use Rattle.gup_spec_turns.specs.Run.{RunState, waiting_in};
-ghost use Rattle.gup_core.specs.Machine.{Shows, TakesTurns, IsNew, free_frames_in};
+ghost use Rattle.gup_core.specs.Machine.{MachineValue, Shows, TakesTurns, IsNew, free_frames_in};
+ghost use Rattle.gup_core.specs.Images.{IsImage};
+ghost use Rattle.gup_image.specs.declared.fact.Fact.{Fact as FactValue};
+ghost use Rattle.gup_script.specs.Valid.{IsScript};
 ghost use Rattle.gup_core.specs.Going.{Advances, WritesTurn};
 
 use crate::inner::Inner;
 use crate::outcome::Advanced;
 use crate::turn::Turn;
 use gup_base::{ActorNo, NoMemory, Zone};
+use gup_image::Fact;
+use gup_law_image::{images_are_exact as facts_are_exact, images_are_of_states as facts_are_of_states};
+use gup_law_turns::reached_states_stand;
 use gup_plain::{Journal, Waiting};
 use gup_script::Script;
 use std::alloc::Global;
@@ -124,10 +130,35 @@ impl Machine {
         self.inner.turns()
     }
 
+    /// The image of the machine: the facts of all that its next turns rest on, but not how many turns are over. Machines of one
+    /// script have the same image exactly where they show the same states ([`images_are_exact`], [`images_are_of_states`]).
+    pub fn image(&self, alloc: Global) -> Result<Vec<Fact>, NoMemory>
+        ensures { IfOk result (λ facts. IsImage self.now facts.items) }
+    {
+        self.inner.image(alloc)
+    }
+
     /// How many frames of the zone are free.
     pub fn free_frames(&self, zone: Zone) -> u32
         ensures { (r : RunState) → Shows self.now r → result ≡ free_frames_in r.core zone }
     {
         self.inner.free_frames(zone)
     }
+}
+
+/// A law: machines of one script that have the same image show the same states. So a turn leads both to the same states
+/// ([`Machine::turn`]).
+pub fn images_are_exact()
+    ensures { (m n : MachineValue) (facts : List FactValue) (r : RunState) → m.script ≡ n.script → IsImage m facts → IsImage n facts → Shows n r → Shows m r }
+{
+    facts_are_exact();
+}
+
+/// A law: machines of one script that show the same state have the same image.
+pub fn images_are_of_states()
+    ensures { (m n : MachineValue) (a b : List FactValue) (r : RunState) → IsScript m.script → m.script ≡ n.script → IsImage m a → IsImage n b
+        → Shows m r → Shows n r → a ≡ b }
+{
+    facts_are_of_states();
+    reached_states_stand();
 }
