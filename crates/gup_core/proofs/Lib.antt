@@ -19,3 +19,4 @@ pub mod FreeFrames
 pub mod Advancing
 pub mod WordTurns
 pub mod Emptied
+pub mod Images

@@ -1,5 +1,5 @@
 //! The machine but for what it keeps of notes: its script and parts, the mirror slots, and where each actor stands.
-ghost use Rattle.std.specs.Prelude.{◌≡◌, ℕ, ◌+◌, ◌<◌, ◌≤◌, [], ◌∷◌, length, slice_get, Some, IfOk, IsTrue, false};
+ghost use Rattle.std.specs.Prelude.{◌≡◌, ℕ, ◌+◌, ◌<◌, ◌≤◌, List, [], ◌∷◌, length, slice_get, Some, IfOk, IsTrue, false};
 ghost use Rattle.gup_spec_journal.specs.Place.{has_finished};
 ghost use Rattle.gup_spec_turns.specs.Run.{RunState, waiting_in};
 ghost use Rattle.gup_core.specs.Machine.{Shows, IsNew, counted, free_frames_in};
@@ -9,7 +9,9 @@ ghost use Rattle.gup_op_waits.specs.declared.seats.Seat.{Seat as SeatValue};
 ghost use Rattle.gup_core.specs.Copies.{is_copying};
 ghost use Rattle.gup_core.specs.Going.{Advances, WritesTurn, HasMore, IsMoved, IsStill, KeepsRoom};
 ghost use Rattle.gup_core.specs.Rest.{IsAtRest};
-ghost use Rattle.gup_core.specs.Images.{IsImage};
+ghost use Rattle.gup_image.specs.declared.fact.Fact.{Fact as FactValue};
+ghost use Rattle.gup_law_image.specs.Alike.{image_in};
+ghost use Rattle.gup_core.specs.Images.{IsImage, imaged};
 
 use crate::copies::{copy_at, seat_after, take_copy};
 use crate::outcome::{Advanced, Woken, woken_by};
@@ -17,7 +19,7 @@ use crate::slots::take_turn;
 use crate::takes::waits_at;
 use crate::turns::{next_turn, op_at, ops, process};
 use gup_base::{ActorNo, NoMemory, Zone};
-use gup_image::{Fact, image};
+use gup_image::{Fact, image, is_whole};
 use gup_notify::Mirrors;
 use gup_op_base::{Head, JobPlace};
 use gup_op_waits::parts::{self, Parts};
@@ -276,9 +278,18 @@ impl Inner {
     pub(crate) fn image(&self, alloc: Global) -> Result<Vec<Fact>, NoMemory>
         ensures { IfOk result (λ facts. IsImage self.now facts.items) }
     {
+        self.has_image();
         self.rests();
         let _actors = self.script.actors();
         image(alloc, &self.parts, &self.mirrors, &self.seats)
+    }
+
+    /// A law: it has an image.
+    pub(crate) fn has_image(&self)
+        ensures { (facts : List FactValue) → facts ≡ image_in (imaged self.now) → IsImage self.now facts }
+    {
+        self.rests();
+        is_whole(&self.parts, &self.mirrors);
     }
 
     // Where the actor stands.

@@ -3,7 +3,8 @@ ghost use Rattle.std.specs.Prelude.{◌≡◌, ℕ, ◌<◌, List, [], length, I
 ghost use Rattle.gup_spec_journal.specs.Place.{has_finished};
 ghost use Rattle.gup_spec_turns.specs.Run.{RunState, waiting_in};
 ghost use Rattle.gup_core.specs.Machine.{MachineValue, Shows, TakesTurns, IsNew, free_frames_in};
-ghost use Rattle.gup_core.specs.Images.{IsImage};
+ghost use Rattle.gup_core.specs.Images.{IsImage, imaged};
+ghost use Rattle.gup_law_image.specs.Alike.{image_in};
 ghost use Rattle.gup_image.specs.declared.fact.Fact.{Fact as FactValue};
 ghost use Rattle.gup_script.specs.Valid.{IsScript};
 ghost use Rattle.gup_core.specs.Going.{Advances, WritesTurn};
@@ -136,6 +137,13 @@ impl Machine {
         ensures { IfOk result (λ facts. IsImage self.now facts.items) }
     {
         self.inner.image(alloc)
+    }
+
+    /// A law: the machine has an image, whether it is made or not.
+    pub fn has_image(&self)
+        ensures { (facts : List FactValue) → facts ≡ image_in (imaged self.now) → IsImage self.now facts }
+    {
+        self.inner.has_image();
     }
 
     /// How many frames of the zone are free.

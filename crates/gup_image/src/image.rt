@@ -1,6 +1,5 @@
 //! The image of all parts.
-ghost use Rattle.std.specs.Prelude.{◌≡◌, ℕ, ◌≤◌, length, IfOk, OnOk};
-ghost use Rattle.gup_space.specs.Space.{AreMapped};
+ghost use Rattle.std.specs.Prelude.{◌≡◌, ◌≤◌, length, IfOk};
 ghost use Rattle.gup_op_base.specs.Tidy.{AreNumbered};
 ghost use Rattle.gup_op_waits.specs.Parts.{EachSpace};
 ghost use Rattle.gup_image.specs.Image.{image_of, HasNoMore};
@@ -30,12 +29,8 @@ pub fn image(
     requires stores { length parts.now.stores.items ≤ 81 }
     requires seats { length seats.now.items ≤ 81 }
     requires numbered { EachSpace AreNumbered parts.now.spaces.items }
-    ensures image { IfOk result (λ facts. facts.items ≡ image_of parts.now mirrors.now seats.now.items) }
-    ensures whole { HasNoMore parts.now mirrors.now }
+    ensures { IfOk result (λ facts. facts.items ≡ image_of parts.now mirrors.now seats.now.items) }
 {
-    parts.frames.are_there();
-    parts.handles.are_numbered();
-    mirrors.are_numbered();
     let mut facts = Vec::new(alloc);
     facts.push(Fact::Zones {
         movable: parts.frames.movable(),
@@ -49,4 +44,13 @@ pub fn image(
     push_stores(&mut facts, &parts.stores)?;
     push_seats(&mut facts, seats)?;
     Ok(facts)
+}
+
+/// A law: nothing is past what an image goes over.
+pub fn is_whole(parts: &Parts, mirrors: &Mirrors)
+    ensures { HasNoMore parts.now mirrors.now }
+{
+    parts.frames.are_there();
+    parts.handles.are_numbered();
+    mirrors.are_numbered();
 }

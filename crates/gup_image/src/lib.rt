@@ -10,4 +10,4 @@ mod image;
 mod processes;
 
 pub use fact::Fact;
-pub use image::image;
+pub use image::{image, is_whole};

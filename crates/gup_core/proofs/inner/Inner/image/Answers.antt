@@ -1,0 +1,1 @@
+use Rattle.gup_core.proofs.inner.Inner.image.Goals as goal

@@ -1,0 +1,43 @@
+//! The search.
+ghost use Rattle.std.specs.Prelude.{◌≡◌, ℕ, true, false, IfOk};
+ghost use Rattle.gup_search.specs.Orders.{AreOfOrders, AreOfAllOrders};
+
+use crate::told::{Named, Tell};
+use gup_base::{ActorNo, NoMemory};
+use gup_plain::Waiting;
+use gup_script::Script;
+use std::alloc::Global;
+
+/// What an order comes to: what the named operations tell, what each actor waits for at the end, and the order, one of the shortest.
+#[derive(Debug, Drop)]
+pub struct Outcome {
+    pub tells: Vec<Tell>,
+    pub waits: Vec<Option<Waiting>>,
+    pub path: Vec<ActorNo>,
+}
+
+/// What a search has found: the outcomes, each once, in the order in which they were found; over how many states it has gone; and
+/// whether it is open, which it is only where there were more states than the limit.
+#[derive(Debug, Drop)]
+pub struct Explored {
+    pub outcomes: Vec<Outcome>,
+    pub states: usize,
+    pub open: bool,
+}
+
+/// Explores every order of the turns of the script's actors, from the start, or behind the written turns, of which each is taken as in a
+/// run. It goes over at most `limit` states, breadth first, and tells outcomes apart by what the named operations tell, and by who waits
+/// at the end, and for what.
+pub fn explore(
+    alloc: Global,
+    script: &Script,
+    behind: bool,
+    named: &[Named],
+    limit: usize,
+) -> Result<Explored, NoMemory>
+    ensures happen { IfOk result (λ found. AreOfOrders script.now behind named.now found.outcomes.items) }
+    ensures all { IfOk result (λ found. found.open ≡ false → AreOfAllOrders script.now behind named.now found.outcomes.items) }
+    ensures open { IfOk result (λ found. found.open ≡ true → found.states ≡ limit) }
+{
+    todo!()
+}
