@@ -1,1 +1,5 @@
 pub mod Orders
+pub mod Search
+pub mod Graph
+pub mod Ends
+pub mod Explored

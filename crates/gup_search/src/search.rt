@@ -2,6 +2,8 @@
 ghost use Rattle.std.specs.Prelude.{◌≡◌, ℕ, true, false, IfOk};
 ghost use Rattle.gup_search.specs.Orders.{AreOfOrders, AreOfAllOrders};
 
+use crate::ends::Ends;
+use crate::expand::{Task, begin, expand};
 use crate::told::{Named, Tell};
 use gup_base::{ActorNo, NoMemory};
 use gup_plain::Waiting;
@@ -39,5 +41,22 @@ pub fn explore(
     ensures all { IfOk result (λ found. found.open ≡ false → AreOfAllOrders script.now behind named.now found.outcomes.items) }
     ensures open { IfOk result (λ found. found.open ≡ true → found.states ≡ limit) }
 {
-    todo!()
+    let task = Task {
+        script,
+        behind,
+        named,
+        limit,
+    };
+    let mut graph = begin(alloc, &task)?;
+    let mut ends = Ends::new(alloc);
+    let mut i = 0;
+    while i < graph.len() {
+        expand(alloc, &task, &mut graph, &mut ends, i)?;
+        i += 1;
+    }
+    Ok(Explored {
+        outcomes: ends.into_outcomes(),
+        states: graph.len(),
+        open: graph.is_open(),
+    })
 }

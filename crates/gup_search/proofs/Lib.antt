@@ -1,0 +1,5 @@
+pub mod Lists
+pub mod Tellings
+pub mod Turns
+pub mod Graphs
+pub mod Searches
