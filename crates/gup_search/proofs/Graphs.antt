@@ -1,6 +1,6 @@
 -- Graphs, and what a state that is added does to them.
-use Rattle.std.proofs.Common.{◌≡◌, ℕ, ◌+◌, ◌<◌, ◌≤◌, ◌⊎◌, inl, inr, Bool, true, false, List, [], ◌∷◌, ◌++◌, Option, Some, None, length, slice_get, reverse, zero, suc, refl, sym, ap, subst, ◌∙◌, arith, append_assoc, append-nil}
-use Rattle.std.proofs.lemmas.List.{reverse-append}
+use Rattle.std.proofs.Common.{◌≡◌, ℕ, ◌+◌, ◌<◌, ◌≤◌, ◌⊎◌, inl, inr, Bool, true, false, List, [], ◌∷◌, ◌++◌, Option, Some, None, length, slice_get, get_or, take, reverse, zero, suc, refl, sym, ap, subst, ◌∙◌, arith, append_assoc, append-nil}
+use Rattle.std.proofs.lemmas.List.{reverse-append, take_more}
 use Rattle.std.proofs.lemmas.Option.{slice_get_within}
 use Rattle.std.proofs.Math.ListN.{length-append}
 use Rattle.gup_image.specs.declared.fact.Fact.{Fact}
@@ -12,13 +12,13 @@ use Rattle.gup_core.specs.Images.{IsImage, imaged}
 use Rattle.gup_law_image.specs.Alike.{image_in}
 use Rattle.gup_search.specs.Orders.{Goes, beginning, setup, journal_in, tells_of, told_in}
 use Rattle.gup_search.specs.Search.{Stands, TakesToldTurn}
-use Rattle.gup_search.specs.Graph.{IsBack, HasState, AreSame, IsThere, IsPushed, IsLeftOut, Adds, Covers, IsCovered, IsLed, IsReached, AreReached, IsGraph, Grows, LeadsBy, IsAt, CanGoAt, IsSteppedBy, IsLedTo}
+use Rattle.gup_search.specs.Graph.{IsBack, HasState, AreSame, IsThere, IsPushed, IsLeftOut, Adds, Covers, IsCovered, IsLed, IsReached, AreReached, IsGraph, Grows, LeadsBy, IsAt, CanGoAt, IsSteppedBy}
 use Rattle.gup_search.specs.declared.told.Named.{Named}
 use Rattle.gup_search.specs.declared.told.Tell.{Tell}
 use Rattle.gup_search.specs.declared.graph.Graph.{Graph}
 use Rattle.gup_search.specs.declared.graph.State.{State}
 use Rattle.gup_search.specs.declared.graph.Step.{Step}
-use Rattle.gup_search.proofs.Lists.{at_end, at_longer, at_either, nothing_at, one_only, same_at}
+use Rattle.gup_search.proofs.Lists.{at_end, at_longer, at_either, nothing_at, one_only, same_at, there_is}
 use Rattle.gup_search.proofs.Turns.{turned-append, stands_on, goes_on}
 
 -- ---- the laws of images
@@ -301,3 +301,14 @@ split_at (x ∷ xs) ys (suc k) y there = elim (split_at xs ys k y there) [ inl w
 
 pub steps_on : (script : ScriptValue) (behind : Bool) (named : List Named) (limit i : ℕ) (f g h : Graph) (xs ys : List ℕ) → IsSteppedBy script behind named limit i f g xs → IsSteppedBy script behind named limit i g h ys → IsSteppedBy script behind named limit i f h (xs ++ ys)
 steps_on script behind named limit i f g h xs ys = steps_more script behind named limit i f g h xs ys (split_at xs ys)
+
+pub steps_next : (script : ScriptValue) (behind : Bool) (named : List Named) (limit i : ℕ) (f g h : Graph) (actors : List ℕ) (k a : ℕ) → k < length actors → a ≡ get_or actors k a → IsSteppedBy script behind named limit i f g (take k actors) → IsSteppedBy script behind named limit i g h (a ∷ []) → IsSteppedBy script behind named limit i f h (take (k + 1) actors)
+steps_next script behind named limit i f g h actors k a within is one two =
+    subst (λ (xs : List ℕ). IsSteppedBy script behind named limit i f h xs) (ap (λ (b : ℕ). take k actors ++ b ∷ []) is ∙ sym (take_more actors k a within))
+    (steps_on script behind named limit i f g h (take k actors) (a ∷ []) one two)
+
+-- a state that was there is there
+pub there_grown : (old new : Graph) (i : ℕ) → Grows old new → i < length old.states.keys → i < length new.states.keys
+there_grown old new i grows within =
+    let state = there_is old.states.keys i within in
+    slice_get_within new.states.keys i state.0 (grows.states i state.0 state.1)

@@ -1,5 +1,7 @@
 -- Lists that one more is pushed to, and what stands at a place.
-use Rattle.std.proofs.Common.{◌≡◌, ℕ, ◌+◌, ◌<◌, ◌≤◌, ◌⊎◌, inl, inr, List, [], ◌∷◌, ◌++◌, Option, Some, None, length, slice_get, zero, suc, refl, sym, ap, ◌∙◌, arith}
+use Rattle.std.proofs.Common.{◌≡◌, ℕ, ◌+◌, ◌<◌, ◌≤◌, ◌⊎◌, inl, inr, List, [], ◌∷◌, ◌++◌, Option, Some, None, length, slice_get, zero, suc, get_or, Bool, true, false, not, ◌||◌, if◌then◌else◌, Result, Ok, Err, OnOk, refl, sym, ap, ◌∙◌, arith}
+use Rattle.std.proofs.lemmas.Option.{slice_get_read}
+use Rattle.std.specs.List.{list_any}
 
 pub at_end : {X : Type 0} (xs : List X) (x : X) → slice_get (xs ++ x ∷ []) (length xs) ≡ Some x
 at_end [] x = refl
@@ -25,3 +27,42 @@ one_only x y (suc k) there = absurd (nothing_at k y there)
 
 pub same_at : {X : Type 0} (xs : List X) (k : ℕ) (x y : X) → slice_get xs k ≡ Some x → slice_get xs k ≡ Some y → x ≡ y
 same_at xs k x y one two = cc
+
+pub there_is : {X : Type 0} (xs : List X) (k : ℕ) → k < length xs → (x : X) × (slice_get xs k ≡ Some x)
+there_is [] k within = absurd (omega arith)
+there_is (x ∷ xs) zero within = (x, refl)
+there_is (x ∷ xs) (suc k) within = there_is xs k (omega arith)
+
+-- what is read at a place is there
+pub read_at : {X : Type 0} (xs : List X) (k : ℕ) (x : X) → k < length xs → x ≡ get_or xs k x → slice_get xs k ≡ Some x
+read_at xs k x within is = slice_get_read xs (length xs) k x refl within is
+
+pub on_ok : {A E : Type 0} (r : Result A E) (P Q : Type 0) → (P → Q) → OnOk r P → OnOk r Q
+on_ok (Ok x) P Q f h = f h
+on_ok (Err e) P Q f h = tt
+
+pub on_ok_both : {A E : Type 0} (r : Result A E) (P Q R : Type 0) → (P → Q → R) → OnOk r P → OnOk r Q → OnOk r R
+on_ok_both (Ok x) P Q R f h k = f h k
+on_ok_both (Err e) P Q R f h k = tt
+
+found_later : (b c : Bool) → b ≡ false → (b || c) ≡ true → c ≡ true
+found_later true c e h = absurd (cc)
+found_later false c e h = h
+
+found_or : {X : Type 0} (p : X → Bool) (x : X) (xs : List X) (b : Bool) → p x ≡ b → (list_any p xs ≡ true → (k : ℕ) × (y : X) × (slice_get xs k ≡ Some y) × (p y ≡ true)) → (p x || list_any p xs) ≡ true → (k : ℕ) × (y : X) × (slice_get (x ∷ xs) k ≡ Some y) × (p y ≡ true)
+found_or p x xs true e later h = (zero, x, refl, e)
+found_or p x xs false e later h = let w = later (found_later (p x) (list_any p xs) e h) in (suc w.0, w.1, w.2, w.3)
+
+-- one that passes the test
+pub found_by : {X : Type 0} (p : X → Bool) (xs : List X) → list_any p xs ≡ true → (k : ℕ) × (x : X) × (slice_get xs k ≡ Some x) × (p x ≡ true)
+found_by p [] h = absurd (cc)
+found_by p (x ∷ xs) h = found_or p x xs (p x) refl (found_by p xs) h
+
+-- a key that is there already is not pushed
+pub kept_keys : {X : Type 0} (b is_new : Bool) (ks more new : List X) → is_new ≡ not b → is_new ≡ false → new ≡ (if b then ks else more) → new ≡ ks
+kept_keys true is_new ks more new added old is = is
+kept_keys false is_new ks more new added old is = absurd (cc)
+
+pub pushed_keys : {X : Type 0} (b is_new : Bool) (ks more new : List X) → is_new ≡ not b → is_new ≡ true → new ≡ (if b then ks else more) → new ≡ more
+pushed_keys true is_new ks more new added young is = absurd (cc)
+pushed_keys false is_new ks more new added young is = is

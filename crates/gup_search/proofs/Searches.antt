@@ -9,7 +9,7 @@ use Rattle.gup_core.specs.Machine.{MachineValue, Shows}
 use Rattle.gup_core.specs.Images.{IsImage}
 use Rattle.gup_search.specs.Orders.{Goes, IsOver, IsOrder, IsOutcome, AreOfOrders, AreOfAllOrders, beginning, setup, journal_in, tells_of, told_in}
 use Rattle.gup_search.specs.Search.{AreTold, Stands, AreReady, AreWaits}
-use Rattle.gup_search.specs.Graph.{Covers, IsCovered, IsLed, IsGraph, Grows, Leads, LeadsBy, IsAt, CanGoAt, IsSteppedBy, IsLedTo}
+use Rattle.gup_search.specs.Graph.{Covers, IsCovered, IsLed, IsGraph, Grows, Leads, LeadsBy, IsAt, CanGoAt, IsSteppedBy}
 use Rattle.gup_search.specs.Ends.{HasEnd, IsEnds, AddsOutcome}
 use Rattle.gup_search.specs.Explored.{HasOutcome, EndsIn, IsClosed, Keeps, AreFound, IsSearch}
 use Rattle.gup_search.specs.declared.told.Named.{Named}

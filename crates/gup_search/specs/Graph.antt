@@ -113,8 +113,3 @@ pub record IsSteppedBy (script : ScriptValue) (behind : Bool) (named : List Name
   pub graph : IsGraph script behind named limit new
   pub grows : Grows old new
   pub leads : new.left_out ≡ false → (k a : ℕ) (state : State) → slice_get actors k ≡ Some a → slice_get old.states.keys i ≡ Some state → LeadsBy script named new state a
-
--- the path leads to the state with this number
-abbrev pub IsLedTo : ScriptValue → (behind : Bool) → List Named → (path : List ℕ) → List State → (i : ℕ) → Type 0
-IsLedTo script behind named path states i =
-    (state : State) × (slice_get states i ≡ Some state) × IsLed script behind named path state.facts.items state.tells.items

@@ -36,14 +36,14 @@ impl Ends {
     }
 
     /// Adds an outcome, unless there is one that tells the same and waits for the same.
-    pub(crate) fn add(&mut self, outcome: Outcome) -> Result<(), NoMemory>
+    pub(crate) fn add(&mut self, alloc: Global, outcome: Outcome) -> Result<(), NoMemory>
         requires { IsEnds self.old }
         ensures known { OnOk result (IsEnds self.new) }
         ensures adds { OnOk result (AddsOutcome self.old.outcomes.items self.new.outcomes.items outcome) }
     {
         let end = End {
             tells: outcome.tells.clone()?,
-            waits: outcome.waits.clone()?,
+            waits: copy_of(alloc, outcome.waits.as_slice())?,
         };
         let (_, is_new) = self.known.insert_full(end)?;
         if is_new {
@@ -58,4 +58,14 @@ impl Ends {
     {
         self.outcomes
     }
+}
+
+fn copy_of(
+    alloc: Global,
+    waits: &[Option<Waiting>],
+) -> Result<Vec<Option<Waiting>>, NoMemory>
+    ensures { IfOk result (λ copy. copy.items ≡ waits.now) }
+{
+    let copy = waits.iter().copied().collect(alloc)?;
+    Ok(copy)
 }

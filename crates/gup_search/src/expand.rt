@@ -1,7 +1,7 @@
 //! The turns that can be taken in a state.
 ghost use Rattle.std.specs.Prelude.{◌≡◌, ℕ, [], ◌∷◌, ◌<◌, ◌+◌, length, slice_get, Some, IfOk, OnOk};
 ghost use Rattle.gup_search.specs.Search.{AreReady};
-ghost use Rattle.gup_search.specs.Graph.{IsGraph, IsLedTo, IsAt, CanGoAt, IsSteppedBy};
+ghost use Rattle.gup_search.specs.Graph.{IsGraph, IsAt, CanGoAt, IsSteppedBy};
 ghost use Rattle.gup_search.specs.Explored.{IsSearch, AreFound, Keeps, EndsIn};
 ghost use Rattle.gup_search.specs.declared.graph.State.{State as StateValue};
 
@@ -51,34 +51,27 @@ pub(crate) fn expand(
     ensures { OnOk result (IsSearch task.now.script.now task.now.behind task.now.named.now task.now.limit graph.new ends.new (i + 1)) }
 {
     images_are_exact();
-    let path = graph.path_to(alloc, i)?;
-    let machine = machine_at(alloc, task, graph, i, path.as_slice())?;
+    let machine = machine_at(alloc, task, graph, i)?;
     let ready = ready(alloc, &machine)?;
     match ready.as_slice().split_first() {
-        None => end(alloc, task, graph, ends, i, &machine, path),
+        None => end(alloc, task, graph, ends, i, &machine),
         Some((first, others)) => {
             step(alloc, task, graph, i, machine, *first)?;
-            step_each(alloc, task, graph, i, path.as_slice(), others)
+            step_each(alloc, task, graph, i, others)
         }
     }
 }
 
-// A machine with the image of the state with this number, to which this path leads.
-fn machine_at(
-    alloc: Global,
-    task: &Task,
-    graph: &Graph,
-    i: usize,
-    path: &[ActorNo],
-) -> Result<Machine, NoMemory>
-    requires { IsLedTo task.now.script.now task.now.behind task.now.named.now path.now graph.now.states.keys i }
+// A machine with the image of the state with this number: it has taken the turns of the path to it.
+fn machine_at(alloc: Global, task: &Task, graph: &Graph, i: usize) -> Result<Machine, NoMemory>
+    requires graph { IsGraph task.now.script.now task.now.behind task.now.named.now task.now.limit graph.now }
+    requires there { i < length graph.now.states.keys }
     ensures { IfOk result (IsAt task.now.script.now graph.now.states.keys i) }
 {
     images_are_of_states();
-    let _written = setup(task.script, task.behind);
-    let _state = graph.state(i);
     let _actors = task.script.actors();
-    let machine = replayed(alloc, task.script, task.behind, path)?;
+    let path = graph.path_to(alloc, i)?;
+    let machine = replayed(alloc, task.script, task.behind, path.as_slice())?;
     machine.has_image();
     Ok(machine)
 }
@@ -111,22 +104,21 @@ fn step_each(
     task: &Task,
     graph: &mut Graph,
     i: usize,
-    path: &[ActorNo],
     actors: &[ActorNo],
 ) -> Result<(), NoMemory>
     requires graph { IsGraph task.now.script.now task.now.behind task.now.named.now task.now.limit graph.old }
-    requires led { IsLedTo task.now.script.now task.now.behind task.now.named.now path.now graph.old.states.keys i }
+    requires there { i < length graph.old.states.keys }
     requires can { (k a : ℕ) → slice_get actors.now k ≡ Some a → CanGoAt task.now.script.now graph.old.states.keys i a }
     ensures { OnOk result (IsSteppedBy task.now.script.now task.now.behind task.now.named.now task.now.limit i graph.old graph.new actors.now) }
 {
     for actor in actors {
-        let machine = machine_at(alloc, task, graph, i, path)?;
+        let machine = machine_at(alloc, task, graph, i)?;
         step(alloc, task, graph, i, machine, *actor)?;
     }
     Ok(())
 }
 
-// Adds the outcome of the state with this number, of which this is a machine, and to which this path leads.
+// Adds the outcome of the state with this number, which is the machine's.
 fn end(
     alloc: Global,
     task: &Task,
@@ -134,11 +126,11 @@ fn end(
     ends: &mut Ends,
     i: usize,
     machine: &Machine,
-    path: Vec<ActorNo>,
 ) -> Result<(), NoMemory>
+    requires graph { IsGraph task.now.script.now task.now.behind task.now.named.now task.now.limit graph.now }
+    requires there { i < length graph.now.states.keys }
     requires found { AreFound task.now.script.now task.now.behind task.now.named.now ends.old }
     requires at { IsAt task.now.script.now graph.now.states.keys i machine.now }
-    requires led { IsLedTo task.now.script.now task.now.behind task.now.named.now path.items graph.now.states.keys i }
     requires over { AreReady machine.now [] }
     ensures found { OnOk result (AreFound task.now.script.now task.now.behind task.now.named.now ends.new) }
     ensures keeps { OnOk result (Keeps ends.old.outcomes.items ends.new.outcomes.items) }
@@ -149,5 +141,6 @@ fn end(
     let _task = task;
     let tells = graph.state(i).tells.clone()?;
     let waits = waits(alloc, machine)?;
-    ends.add(Outcome { tells, waits, path })
+    let path = graph.path_to(alloc, i)?;
+    ends.add(alloc, Outcome { tells, waits, path })
 }

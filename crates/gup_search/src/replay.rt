@@ -1,8 +1,8 @@
 //! Machines that have taken the turns of an order.
-ghost use Rattle.std.specs.Prelude.{◌≡◌, ℕ, ◌<◌, ◌++◌, List, length, slice_get, Some, IfOk, OnOk};
+ghost use Rattle.std.specs.Prelude.{◌≡◌, ℕ, ◌<◌, ◌++◌, List, length, IfOk, OnOk};
 ghost use Rattle.std.specs.List.{All};
-ghost use Rattle.gup_script.specs.Valid.{IsScript};
-ghost use Rattle.gup_spec_turns.specs.Run.{RunState, turned, run_start, waiting_in, can_go};
+ghost use Rattle.gup_script.specs.Script.{ScriptValue};
+ghost use Rattle.gup_spec_turns.specs.Run.{RunState, turned, run_start, can_go};
 ghost use Rattle.gup_core.specs.Machine.{Shows};
 ghost use Rattle.gup_search.specs.Orders.{setup};
 ghost use Rattle.gup_search.specs.Search.{Stands, TakesToldTurn, AreReady, AreWaits};
@@ -60,8 +60,8 @@ pub(crate) fn tell_turns(
 ) -> Result<(), NoMemory>
     requires { All (λ (a : ℕ). a < length machine.old.script.actors) actors.now }
     ensures script { machine.new.script ≡ machine.old.script }
-    ensures stands { OnOk result ((order : List ℕ) → Stands machine.old.script named.now order machine.old tells.old.items
-        → Stands machine.old.script named.now (order ++ actors.now) machine.new tells.new.items) }
+    ensures stands { OnOk result ((script : ScriptValue) (order : List ℕ) → Stands script named.now order machine.old tells.old.items
+        → Stands script named.now (order ++ actors.now) machine.new tells.new.items) }
 {
     for actor in actors {
         tell_turn(machine, named, *actor, tells)?;
