@@ -45,6 +45,14 @@ pub on_ok_both : {A E : Type 0} (r : Result A E) (P Q R : Type 0) → (P → Q �
 on_ok_both (Ok x) P Q R f h k = f h k
 on_ok_both (Err e) P Q R f h k = tt
 
+pub on_ok_three : {A E : Type 0} (r : Result A E) (P Q R S : Type 0) → (P → Q → R → S) → OnOk r P → OnOk r Q → OnOk r R → OnOk r S
+on_ok_three (Ok x) P Q R S f h k l = f h k l
+on_ok_three (Err e) P Q R S f h k l = tt
+
+pub no_items : {X : Type 0} (xs : List X) → length xs ≡ 0 → xs ≡ []
+no_items [] none = refl
+no_items (x ∷ xs) none = absurd (omega arith)
+
 found_later : (b c : Bool) → b ≡ false → (b || c) ≡ true → c ≡ true
 found_later true c e h = absurd (cc)
 found_later false c e h = h
