@@ -14,7 +14,9 @@ use crate::outcome::Advanced;
 use crate::turn::Turn;
 use gup_base::{ActorNo, NoMemory, Zone};
 use gup_image::Fact;
-use gup_law_image::{images_are_exact as facts_are_exact, images_are_of_states as facts_are_of_states};
+use gup_law_image::{
+    images_are_exact as facts_are_exact, images_are_of_states as facts_are_of_states,
+};
 use gup_law_turns::reached_states_stand;
 use gup_plain::{Journal, Waiting};
 use gup_script::Script;

@@ -39,11 +39,12 @@ fn push_taken_by(facts: &mut Vec<Fact>, actor: ActorNo, frames: &[FrameNo]) -> R
     requires { length frames.now ≤ 16 }
     ensures { OnOk result (facts.new.items ≡ facts.old.items ++ along (λ k frame. Taken actor k frame ∷ []) frames.now) }
 {
-    for place in 0..frames.len() as u8 {
+    for place in 0..frames.len() {
+        let frame = frames[place];
         facts.push(Fact::Taken {
             actor,
-            place,
-            frame: frames[usize::from(place)],
+            place: place as u8,
+            frame,
         })?;
     }
     Ok(())
@@ -58,21 +59,35 @@ pub(crate) fn push_stores(
     ensures { OnOk result (facts.new.items ≡ facts.old.items ++ along store_facts stores.now.items) }
 {
     for a in 0..stores.len() {
-        if let Some(store) = &stores[a] {
-            push_store(facts, actor_no(a), store)?;
-        }
+        push_store(facts, actor_no(a), &stores[a])?;
     }
     Ok(())
 }
 
-fn push_store(facts: &mut Vec<Fact>, actor: ActorNo, store: &Store) -> Result<(), NoMemory>
+fn push_store(facts: &mut Vec<Fact>, actor: ActorNo, store: &Option<Store>) -> Result<(), NoMemory>
+    ensures { OnOk result (facts.new.items ≡ facts.old.items ++ store_facts actor store.now) }
+{
+    match store {
+        Some(store) => push_words(facts, actor, store),
+        None => Ok(()),
+    }
+}
+
+fn push_words(facts: &mut Vec<Fact>, actor: ActorNo, store: &Store) -> Result<(), NoMemory>
     ensures { OnOk result (facts.new.items ≡ facts.old.items ++ along (stored_fact actor) store.now) }
 {
     for slot in 0..store.words() {
-        let value = store.word(slot);
-        if value > 0 {
-            facts.push(Fact::Stored { actor, slot, value })?;
-        }
+        push_word(facts, actor, slot, store.word(slot))?;
+    }
+    Ok(())
+}
+
+#[inline]
+fn push_word(facts: &mut Vec<Fact>, actor: ActorNo, slot: u16, value: u64) -> Result<(), NoMemory>
+    ensures { OnOk result (facts.new.items ≡ facts.old.items ++ stored_fact actor slot value) }
+{
+    if value > 0 {
+        facts.push(Fact::Stored { actor, slot, value })?;
     }
     Ok(())
 }
@@ -83,14 +98,20 @@ pub(crate) fn push_seats(facts: &mut Vec<Fact>, seats: &Vec<Seat>) -> Result<(),
     ensures { OnOk result (facts.new.items ≡ facts.old.items ++ along seat_fact seats.now.items) }
 {
     for a in 0..seats.len() {
-        let seat = seats[a];
-        facts.push(Fact::Stands {
-            actor: actor_no(a),
-            far: seat.far,
-            answered: seat.answered,
-            job: read_part(seat.job),
-        })?;
+        push_seat(facts, actor_no(a), seats[a])?;
     }
+    Ok(())
+}
+
+fn push_seat(facts: &mut Vec<Fact>, actor: ActorNo, seat: Seat) -> Result<(), NoMemory>
+    ensures { OnOk result (facts.new.items ≡ facts.old.items ++ seat_fact actor seat) }
+{
+    facts.push(Fact::Stands {
+        actor,
+        far: seat.far,
+        answered: seat.answered,
+        job: read_part(seat.job),
+    })?;
     Ok(())
 }
 

@@ -8,7 +8,10 @@ use gup_op_waits::Birth;
 #[derive(Clone, Copy, Debug, PartialEq, Eq, Hash)]
 pub enum Fact {
     /// So many frames are of either zone.
-    Zones { movable: u32, normal: u32 },
+    Zones {
+        movable: u32,
+        normal: u32,
+    },
     /// The frame has references, or is marked as exclusive.
     Frame {
         mark: bool,
@@ -58,7 +61,9 @@ pub enum Fact {
         handle: HandleNo,
     },
     /// A pin that is given back.
-    Gone { handle: HandleNo },
+    Gone {
+        handle: HandleNo,
+    },
     /// The frame that the actor's running pin has taken at this place.
     Taken {
         actor: ActorNo,

@@ -1,19 +1,20 @@
 //! The facts of handles and mirror slots.
-ghost use Rattle.std.specs.Prelude.{◌≡◌, ℕ, ◌++◌, ◌≤◌, length, OnOk, [], ◌∷◌};
+ghost use Rattle.std.specs.Prelude.{◌≡◌, ◌++◌, ◌≤◌, ◌<◌, length, OnOk, [], ◌∷◌};
 ghost use Rattle.gup_script.specs.Limits.{most_handles, most_mirrors};
 ghost use Rattle.gup_handles.specs.Handles.{handles_of};
 ghost use Rattle.gup_notify.specs.Mirrors.{mirrors_of};
-ghost use Rattle.gup_image.specs.declared.fact.Fact.TheVariants.{Pinned};
+ghost use Rattle.gup_image.specs.declared.fact.Fact.TheVariants.{Pin, Pinned};
 ghost use Rattle.gup_image.specs.Gathered.{gathered, along};
 ghost use Rattle.gup_image.specs.Image.{handle_facts, slot_fact};
 
 use crate::fact::Fact;
-use gup_base::{FrameNo, HandleNo, MirrorNo, NoMemory};
+use gup_base::{ActorNo, FrameNo, HandleNo, MirrorNo, NoMemory};
 use gup_handles::{HandleState, Handles};
 use gup_notify::Mirrors;
 
 // How many handles and slots a number can name.
 const HANDLES: u16 = 1024;
+
 const SLOTS: u8 = 64;
 
 /// Those of all handles.
@@ -22,9 +23,16 @@ pub(crate) fn push_handles(facts: &mut Vec<Fact>, handles: &Handles) -> Result<(
         ≡ facts.old.items ++ gathered (λ h. handle_facts h (handles_of handles.now h)) most_handles) }
 {
     for h in 0..HANDLES {
-        push_handle(facts, handles, HandleNo::new(u64::from(h)).unwrap())?;
+        push_handle(facts, handles, handle_no(h))?;
     }
     Ok(())
+}
+
+fn handle_no(h: u16) -> HandleNo
+    requires { h < 1024 }
+    ensures { result ≡ h }
+{
+    HandleNo::new(u64::from(h)).unwrap()
 }
 
 fn push_handle(facts: &mut Vec<Fact>, handles: &Handles, handle: HandleNo) -> Result<(), NoMemory>
@@ -33,22 +41,10 @@ fn push_handle(facts: &mut Vec<Fact>, handles: &Handles, handle: HandleNo) -> Re
     match handles.state(handle) {
         HandleState::Unmade => {}
         HandleState::Held { by, frames, write } => {
-            facts.push(Fact::Pin {
-                actor: by,
-                given: false,
-                write,
-                handle,
-            })?;
-            push_pinned(facts, handle, frames)?;
+            push_pin(facts, handle, by, false, write, frames)?;
         }
         HandleState::Given { to, frames, write } => {
-            facts.push(Fact::Pin {
-                actor: to,
-                given: true,
-                write,
-                handle,
-            })?;
-            push_pinned(facts, handle, frames)?;
+            push_pin(facts, handle, to, true, write, frames)?;
         }
         HandleState::Got { by, frame } => facts.push(Fact::Got {
             actor: by,
@@ -60,14 +56,36 @@ fn push_handle(facts: &mut Vec<Fact>, handles: &Handles, handle: HandleNo) -> Re
     Ok(())
 }
 
+fn push_pin(
+    facts: &mut Vec<Fact>,
+    handle: HandleNo,
+    actor: ActorNo,
+    given: bool,
+    write: bool,
+    frames: &[FrameNo],
+) -> Result<(), NoMemory>
+    requires { length frames.now ≤ 16 }
+    ensures { OnOk result (facts.new.items ≡ facts.old.items
+        ++ Pin actor given write handle ∷ along (λ k frame. Pinned k frame handle ∷ []) frames.now) }
+{
+    facts.push(Fact::Pin {
+        actor,
+        given,
+        write,
+        handle,
+    })?;
+    push_pinned(facts, handle, frames)
+}
+
 fn push_pinned(facts: &mut Vec<Fact>, handle: HandleNo, frames: &[FrameNo]) -> Result<(), NoMemory>
     requires { length frames.now ≤ 16 }
     ensures { OnOk result (facts.new.items ≡ facts.old.items ++ along (λ k frame. Pinned k frame handle ∷ []) frames.now) }
 {
-    for place in 0..frames.len() as u8 {
+    for place in 0..frames.len() {
+        let frame = frames[place];
         facts.push(Fact::Pinned {
-            place,
-            frame: frames[usize::from(place)],
+            place: place as u8,
+            frame,
             handle,
         })?;
     }
@@ -80,9 +98,16 @@ pub(crate) fn push_slots(facts: &mut Vec<Fact>, mirrors: &Mirrors) -> Result<(),
         ≡ facts.old.items ++ gathered (λ m. slot_fact m (mirrors_of mirrors.now m)) most_mirrors) }
 {
     for m in 0..SLOTS {
-        push_slot(facts, mirrors, MirrorNo::new(u64::from(m)).unwrap())?;
+        push_slot(facts, mirrors, mirror_no(m))?;
     }
     Ok(())
+}
+
+fn mirror_no(m: u8) -> MirrorNo
+    requires { m < 64 }
+    ensures { result ≡ m }
+{
+    MirrorNo::new(u64::from(m)).unwrap()
 }
 
 fn push_slot(facts: &mut Vec<Fact>, mirrors: &Mirrors, mirror: MirrorNo) -> Result<(), NoMemory>

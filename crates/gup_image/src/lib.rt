@@ -1,6 +1,6 @@
 //! The image of a machine between two turns: a list of facts, of which no two machines have the same that differ in anything that a
 //! turn reads.
-#![tactic(auto)]
+#![tactic(auto, using(crate::proofs::Gathered::gathering))]
 
 mod actors;
 mod fact;
