@@ -28,19 +28,23 @@ pub along-put : {X Y : Type 0} (of : ℕ → X → List Y) (xs : List X) (k : �
 along-put of xs k x first facts new is here more =
     gathered-put (λ i. at_place of i (slice_get xs i)) k first facts new is (more ∙ ap (λ o. facts ++ at_place of k o) (sym here))
 
+over_next : {X : Type 0} (of : ℕ → List X) (from n : ℕ) → from ≤ suc n → ((k : ℕ) → from ≤ k → k < suc n → of k ≡ []) → (from ≤ n → gathered of n ≡ gathered of from) → (n < from) ⊎ (from ≤ n) → gathered of (suc n) ≡ gathered of from
+over_next of from n below none rest (inl more) = let same : suc n ≡ from = omega arith in ap (gathered of) same
+over_next of from n below none rest (inr less) =
+    gathered-suc of n ∙ ap (λ xs. gathered of n ++ xs) (none n less (omega arith)) ∙ append-nil (gathered of n) ∙ rest less
+
 -- numbers of which there is nothing are passed over
 pub gathered-over : {X : Type 0} (of : ℕ → List X) (from n : ℕ) → from ≤ n → ((k : ℕ) → from ≤ k → k < n → of k ≡ []) → gathered of n ≡ gathered of from
 gathered-over of from zero below none = let same : 0 ≡ from = omega arith in ap (gathered of) same
-gathered-over of from (suc n) below none = go (cases_lt from (suc n))
-  where
-    go : (from < suc n) ⊎ (suc n ≤ from) → gathered of (suc n) ≡ gathered of from
-    go (inl less) =
-        let rest = gathered-over of from n (omega arith) (λ k above under. none k above (omega arith)) in
-        gathered-suc of n ∙ ap (λ xs. gathered of n ++ xs) (none n (omega arith) (omega arith)) ∙ append-nil (gathered of n) ∙ rest
-    go (inr more) = let same : suc n ≡ from = omega arith in ap (gathered of) same
+gathered-over of from (suc n) below none = over_next of from n below none (λ less. gathered-over of from n less (λ k above under. none k above (omega arith))) (cases_lt n from)
 
 pub gathered-put-over : {X : Type 0} (of : ℕ → List X) (from k : ℕ) (first facts new : List X) → from ≤ k → ((j : ℕ) → from ≤ j → j < k → of j ≡ []) → facts ≡ first ++ gathered of from → new ≡ facts ++ of k → new ≡ first ++ gathered of (k + 1)
 gathered-put-over of from k first facts new above none is more =
     gathered-put of k first facts new (is ∙ ap (λ xs. first ++ xs) (sym (gathered-over of from k above none))) more
+
+-- the same, where its place goes by another name
+pub along-at : {X Y : Type 0} (of : ℕ → X → List Y) (xs : List X) (k a : ℕ) (x : X) (first facts new : List Y) → facts ≡ first ++ gathered (λ i. at_place of i (slice_get xs i)) k → a ≡ k → slice_get xs k ≡ Some x → new ≡ facts ++ of a x
+    → new ≡ first ++ gathered (λ i. at_place of i (slice_get xs i)) (k + 1)
+along-at of xs k a x first facts new is same here more = along-put of xs k x first facts new is here (more ∙ ap (λ i. facts ++ of i x) same)
 
 pub ruleset gathering = (gathered-first, gathered-put, along-put)

@@ -1,12 +1,21 @@
 -- The facts of mapped pages, in order.
-use Rattle.std.proofs.Common.{◌≡◌, ℕ, ◌+◌, ◌<◌, ◌≤◌, List, [], ◌++◌, Option, Some, None, IsSome, ap, sym, ◌∙◌, arith}
+use Rattle.std.proofs.Common.{◌≡◌, ℕ, ◌+◌, ◌<◌, ◌≤◌, List, [], ◌++◌, Option, Some, None, refl, ap, sym, ◌∙◌, arith}
 use Rattle.gup_base.specs.declared.entry.Entry.{Entry}
 use Rattle.gup_base.specs.declared.entry.Rights.{Rights}
+use Rattle.gup_plain.specs.Event.{page_numbers}
 use Rattle.gup_maps.specs.Table.{IsNextPage, IsLastPage}
 use Rattle.gup_image.specs.declared.fact.Fact.{Fact}
 use Rattle.gup_image.specs.Gathered.{gathered}
 use Rattle.gup_image.specs.Image.{page_fact}
 use Rattle.gup_image.proofs.Gathered.{gathered-over, gathered-put-over}
+
+-- past the last number there is no mapped page
+pub none_past : (right : ℕ → Option Rights) (from : ℕ) → page_numbers ≤ from → ((page : ℕ) (rights : Rights) → right page ≡ Some rights → page < page_numbers) → IsLastPage right from
+none_past right from past numbered g above = go (right g) refl
+  where
+    go : (o : Option Rights) → right g ≡ o → right g ≡ None
+    go None is = is
+    go (Some rights) is = let below = numbered g rights is in absurd (omega (arith, past, above, below))
 
 module _ (p : ℕ) (right : ℕ → Option Rights) (entry : ℕ → Option Entry) where
   abbrev pub pages : ℕ → List Fact

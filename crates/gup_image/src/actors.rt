@@ -6,7 +6,7 @@ ghost use Rattle.gup_image.specs.declared.fact.Fact.TheVariants.{Taken};
 ghost use Rattle.gup_image.specs.Gathered.{along};
 ghost use Rattle.gup_image.specs.Image.{stored_fact, store_facts, read_page, read_job, seat_fact};
 
-use crate::fact::Fact;
+use crate::fact::{Fact, KeptFact, put};
 use arrayvec::ArrayVec;
 use gup_base::{ActorNo, FrameNo, NoMemory, PageNo};
 use gup_device::Store;
@@ -22,7 +22,7 @@ fn actor_no(a: usize) -> ActorNo
 
 /// What the running pins of all actors have taken.
 pub(crate) fn push_taken(
-    facts: &mut Vec<Fact>,
+    facts: &mut Vec<KeptFact>,
     taken: &Vec<ArrayVec<FrameNo, 16>>,
 ) -> Result<(), NoMemory>
     requires { length taken.now.items ≤ 81 }
@@ -35,24 +35,31 @@ pub(crate) fn push_taken(
     Ok(())
 }
 
-fn push_taken_by(facts: &mut Vec<Fact>, actor: ActorNo, frames: &[FrameNo]) -> Result<(), NoMemory>
+fn push_taken_by(
+    facts: &mut Vec<KeptFact>,
+    actor: ActorNo,
+    frames: &[FrameNo],
+) -> Result<(), NoMemory>
     requires { length frames.now ≤ 16 }
     ensures { OnOk result (facts.new.items ≡ facts.old.items ++ along (λ k frame. Taken actor k frame ∷ []) frames.now) }
 {
     for place in 0..frames.len() {
         let frame = frames[place];
-        facts.push(Fact::Taken {
-            actor,
-            place: place as u8,
-            frame,
-        })?;
+        put(
+            facts,
+            Fact::Taken {
+                actor,
+                place: place as u8,
+                frame,
+            },
+        )?;
     }
     Ok(())
 }
 
 /// The words of all devices.
 pub(crate) fn push_stores(
-    facts: &mut Vec<Fact>,
+    facts: &mut Vec<KeptFact>,
     stores: &Vec<Option<Store>>,
 ) -> Result<(), NoMemory>
     requires { length stores.now.items ≤ 81 }
@@ -64,7 +71,11 @@ pub(crate) fn push_stores(
     Ok(())
 }
 
-fn push_store(facts: &mut Vec<Fact>, actor: ActorNo, store: &Option<Store>) -> Result<(), NoMemory>
+fn push_store(
+    facts: &mut Vec<KeptFact>,
+    actor: ActorNo,
+    store: &Option<Store>,
+) -> Result<(), NoMemory>
     ensures { OnOk result (facts.new.items ≡ facts.old.items ++ store_facts actor store.now) }
 {
     match store {
@@ -73,7 +84,7 @@ fn push_store(facts: &mut Vec<Fact>, actor: ActorNo, store: &Option<Store>) -> R
     }
 }
 
-fn push_words(facts: &mut Vec<Fact>, actor: ActorNo, store: &Store) -> Result<(), NoMemory>
+fn push_words(facts: &mut Vec<KeptFact>, actor: ActorNo, store: &Store) -> Result<(), NoMemory>
     ensures { OnOk result (facts.new.items ≡ facts.old.items ++ along (stored_fact actor) store.now) }
 {
     for slot in 0..store.words() {
@@ -83,17 +94,22 @@ fn push_words(facts: &mut Vec<Fact>, actor: ActorNo, store: &Store) -> Result<()
 }
 
 #[inline]
-fn push_word(facts: &mut Vec<Fact>, actor: ActorNo, slot: u16, value: u64) -> Result<(), NoMemory>
+fn push_word(
+    facts: &mut Vec<KeptFact>,
+    actor: ActorNo,
+    slot: u16,
+    value: u64,
+) -> Result<(), NoMemory>
     ensures { OnOk result (facts.new.items ≡ facts.old.items ++ stored_fact actor slot value) }
 {
     if value > 0 {
-        facts.push(Fact::Stored { actor, slot, value })?;
+        put(facts, Fact::Stored { actor, slot, value })?;
     }
     Ok(())
 }
 
 /// Where all actors stand.
-pub(crate) fn push_seats(facts: &mut Vec<Fact>, seats: &Vec<Seat>) -> Result<(), NoMemory>
+pub(crate) fn push_seats(facts: &mut Vec<KeptFact>, seats: &Vec<Seat>) -> Result<(), NoMemory>
     requires { length seats.now.items ≤ 81 }
     ensures { OnOk result (facts.new.items ≡ facts.old.items ++ along seat_fact seats.now.items) }
 {
@@ -103,15 +119,18 @@ pub(crate) fn push_seats(facts: &mut Vec<Fact>, seats: &Vec<Seat>) -> Result<(),
     Ok(())
 }
 
-fn push_seat(facts: &mut Vec<Fact>, actor: ActorNo, seat: Seat) -> Result<(), NoMemory>
+fn push_seat(facts: &mut Vec<KeptFact>, actor: ActorNo, seat: Seat) -> Result<(), NoMemory>
     ensures { OnOk result (facts.new.items ≡ facts.old.items ++ seat_fact actor seat) }
 {
-    facts.push(Fact::Stands {
-        actor,
-        far: seat.far,
-        answered: seat.answered,
-        job: read_part(seat.job),
-    })?;
+    put(
+        facts,
+        Fact::Stands {
+            actor,
+            far: seat.far,
+            answered: seat.answered,
+            job: read_part(seat.job),
+        },
+    )?;
     Ok(())
 }
 
@@ -126,15 +145,15 @@ fn read_part(job: JobPlace) -> JobPlace
             sequence,
         } => JobPlace::Walking {
             place,
-            page: page_read(place, page),
+            page: page_read(&place, page),
             sequence,
         },
         _ => job,
     }
 }
 
-fn page_read(place: WalkPlace, page: PageNo) -> PageNo
-    ensures { result ≡ read_page place page }
+fn page_read(place: &WalkPlace, page: PageNo) -> PageNo
+    ensures { result ≡ read_page place.now page }
 {
     match place {
         WalkPlace::Read(_) | WalkPlace::Grabbed(_) | WalkPlace::Rechecked(_) => page,

@@ -7,7 +7,7 @@ ghost use Rattle.gup_image.specs.declared.fact.Fact.TheVariants.{Pin, Pinned};
 ghost use Rattle.gup_image.specs.Gathered.{gathered, along};
 ghost use Rattle.gup_image.specs.Image.{handle_facts, slot_fact};
 
-use crate::fact::Fact;
+use crate::fact::{Fact, KeptFact, put};
 use gup_base::{ActorNo, FrameNo, HandleNo, MirrorNo, NoMemory};
 use gup_handles::{HandleState, Handles};
 use gup_notify::Mirrors;
@@ -18,7 +18,7 @@ const HANDLES: u16 = 1024;
 const SLOTS: u8 = 64;
 
 /// Those of all handles.
-pub(crate) fn push_handles(facts: &mut Vec<Fact>, handles: &Handles) -> Result<(), NoMemory>
+pub(crate) fn push_handles(facts: &mut Vec<KeptFact>, handles: &Handles) -> Result<(), NoMemory>
     ensures { OnOk result (facts.new.items
         ≡ facts.old.items ++ gathered (λ h. handle_facts h (handles_of handles.now h)) most_handles) }
 {
@@ -35,7 +35,11 @@ fn handle_no(h: u16) -> HandleNo
     HandleNo::new(u64::from(h)).unwrap()
 }
 
-fn push_handle(facts: &mut Vec<Fact>, handles: &Handles, handle: HandleNo) -> Result<(), NoMemory>
+fn push_handle(
+    facts: &mut Vec<KeptFact>,
+    handles: &Handles,
+    handle: HandleNo,
+) -> Result<(), NoMemory>
     ensures { OnOk result (facts.new.items ≡ facts.old.items ++ handle_facts handle (handles_of handles.now handle)) }
 {
     match handles.state(handle) {
@@ -46,18 +50,21 @@ fn push_handle(facts: &mut Vec<Fact>, handles: &Handles, handle: HandleNo) -> Re
         HandleState::Given { to, frames, write } => {
             push_pin(facts, handle, to, true, write, frames)?;
         }
-        HandleState::Got { by, frame } => facts.push(Fact::Got {
-            actor: by,
-            frame,
-            handle,
-        })?,
-        HandleState::Gone => facts.push(Fact::Gone { handle })?,
+        HandleState::Got { by, frame } => put(
+            facts,
+            Fact::Got {
+                actor: by,
+                frame,
+                handle,
+            },
+        )?,
+        HandleState::Gone => put(facts, Fact::Gone { handle })?,
     }
     Ok(())
 }
 
 fn push_pin(
-    facts: &mut Vec<Fact>,
+    facts: &mut Vec<KeptFact>,
     handle: HandleNo,
     actor: ActorNo,
     given: bool,
@@ -68,32 +75,42 @@ fn push_pin(
     ensures { OnOk result (facts.new.items ≡ facts.old.items
         ++ Pin actor given write handle ∷ along (λ k frame. Pinned k frame handle ∷ []) frames.now) }
 {
-    facts.push(Fact::Pin {
-        actor,
-        given,
-        write,
-        handle,
-    })?;
+    put(
+        facts,
+        Fact::Pin {
+            actor,
+            given,
+            write,
+            handle,
+        },
+    )?;
     push_pinned(facts, handle, frames)
 }
 
-fn push_pinned(facts: &mut Vec<Fact>, handle: HandleNo, frames: &[FrameNo]) -> Result<(), NoMemory>
+fn push_pinned(
+    facts: &mut Vec<KeptFact>,
+    handle: HandleNo,
+    frames: &[FrameNo],
+) -> Result<(), NoMemory>
     requires { length frames.now ≤ 16 }
     ensures { OnOk result (facts.new.items ≡ facts.old.items ++ along (λ k frame. Pinned k frame handle ∷ []) frames.now) }
 {
     for place in 0..frames.len() {
         let frame = frames[place];
-        facts.push(Fact::Pinned {
-            place: place as u8,
-            frame,
-            handle,
-        })?;
+        put(
+            facts,
+            Fact::Pinned {
+                place: place as u8,
+                frame,
+                handle,
+            },
+        )?;
     }
     Ok(())
 }
 
 /// Those of all mirror slots.
-pub(crate) fn push_slots(facts: &mut Vec<Fact>, mirrors: &Mirrors) -> Result<(), NoMemory>
+pub(crate) fn push_slots(facts: &mut Vec<KeptFact>, mirrors: &Mirrors) -> Result<(), NoMemory>
     ensures { OnOk result (facts.new.items
         ≡ facts.old.items ++ gathered (λ m. slot_fact m (mirrors_of mirrors.now m)) most_mirrors) }
 {
@@ -110,16 +127,19 @@ fn mirror_no(m: u8) -> MirrorNo
     MirrorNo::new(u64::from(m)).unwrap()
 }
 
-fn push_slot(facts: &mut Vec<Fact>, mirrors: &Mirrors, mirror: MirrorNo) -> Result<(), NoMemory>
+fn push_slot(facts: &mut Vec<KeptFact>, mirrors: &Mirrors, mirror: MirrorNo) -> Result<(), NoMemory>
     ensures { OnOk result (facts.new.items ≡ facts.old.items ++ slot_fact mirror (mirrors_of mirrors.now mirror)) }
 {
     if let Some(filled) = mirrors.slot(mirror) {
-        facts.push(Fact::Filled {
-            mirror,
-            proc: filled.proc,
-            frame: filled.frame,
-            page: filled.page,
-        })?;
+        put(
+            facts,
+            Fact::Filled {
+                mirror,
+                proc: filled.proc,
+                frame: filled.frame,
+                page: filled.page,
+            },
+        )?;
     }
     Ok(())
 }

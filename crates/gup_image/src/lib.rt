@@ -3,11 +3,11 @@
 #![tactic(auto, using(crate::proofs::Gathered::gathering))]
 
 mod actors;
+mod all;
 mod fact;
 mod frames;
 mod handles;
-mod image;
 mod processes;
 
-pub use fact::Fact;
-pub use image::{image, is_whole};
+pub use all::{image, is_whole};
+pub use fact::{Fact, KeptFact};

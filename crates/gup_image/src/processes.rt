@@ -8,13 +8,13 @@ ghost use Rattle.gup_op_waits.specs.Parts.{EachSpace};
 ghost use Rattle.gup_image.specs.Gathered.{gathered, along};
 ghost use Rattle.gup_image.specs.Image.{pages, process_facts, born_facts};
 
-use crate::fact::Fact;
+use crate::fact::{Fact, KeptFact, put};
 use gup_base::{NoMemory, PageNo, ProcNo};
 use gup_op_waits::{Birth, Parts};
 use gup_space::Space;
 
 /// Those of all processes.
-pub(crate) fn push_processes(facts: &mut Vec<Fact>, parts: &Parts) -> Result<(), NoMemory>
+pub(crate) fn push_processes(facts: &mut Vec<KeptFact>, parts: &Parts) -> Result<(), NoMemory>
     requires few { length parts.now.spaces.items ≤ 16 }
     requires births { length parts.now.births.items ≡ length parts.now.spaces.items }
     requires numbered { EachSpace AreNumbered parts.now.spaces.items }
@@ -35,7 +35,7 @@ fn proc_no(p: usize) -> ProcNo
 }
 
 fn push_process(
-    facts: &mut Vec<Fact>,
+    facts: &mut Vec<KeptFact>,
     proc: ProcNo,
     birth: Birth,
     space: &Space,
@@ -43,19 +43,22 @@ fn push_process(
     requires { AreNumbered (space_of space.now) }
     ensures { OnOk result (facts.new.items ≡ facts.old.items ++ process_facts proc birth (space_of space.now)) }
 {
-    facts.push(Fact::Process {
-        proc,
-        birth,
-        has_pinned: space.has_pinned(),
-        structure: space.structure(),
-        table: space.table(),
-        pages: space.len(),
-        sequence: space.sequence(),
-    })?;
+    put(
+        facts,
+        Fact::Process {
+            proc,
+            birth,
+            has_pinned: space.has_pinned(),
+            structure: space.structure(),
+            table: space.table(),
+            pages: space.len(),
+            sequence: space.sequence(),
+        },
+    )?;
     push_pages(facts, proc, space)
 }
 
-fn push_pages(facts: &mut Vec<Fact>, proc: ProcNo, space: &Space) -> Result<(), NoMemory>
+fn push_pages(facts: &mut Vec<KeptFact>, proc: ProcNo, space: &Space) -> Result<(), NoMemory>
     requires { AreNumbered (space_of space.now) }
     ensures { OnOk result (facts.new.items ≡ facts.old.items
         ++ gathered (pages proc (space_of space.now)) page_numbers) }
@@ -78,7 +81,7 @@ fn next_page(space: &Space, from: u64) -> Option<PageNo>
 }
 
 fn push_page(
-    facts: &mut Vec<Fact>,
+    facts: &mut Vec<KeptFact>,
     proc: ProcNo,
     space: &Space,
     page: PageNo,
@@ -87,12 +90,15 @@ fn push_page(
 {
     if let Some(rights) = space.rights_at(page) {
         let entry = space.entry(page);
-        facts.push(Fact::Page {
-            proc,
-            rights,
-            entry,
-            page,
-        })?;
+        put(
+            facts,
+            Fact::Page {
+                proc,
+                rights,
+                entry,
+                page,
+            },
+        )?;
     }
     Ok(())
 }
