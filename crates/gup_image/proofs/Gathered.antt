@@ -1,7 +1,7 @@
 -- Lists that are put together number by number.
-use Rattle.std.proofs.Common.{◌≡◌, ℕ, ◌+◌, ◌<◌, ◌≤◌, List, [], ◌∷◌, ◌++◌, Option, Some, None, slice_get, length, refl, sym, ap, ◌∙◌, append_assoc, append-nil, arith, zero, suc, ◌⊎◌, inl, inr}
+use Rattle.std.proofs.Common.{◌≡◌, ℕ, ◌+◌, ◌<◌, ◌≤◌, List, [], ◌++◌, Some, slice_get, refl, sym, ap, ◌∙◌, append_assoc, append-nil, arith, zero, suc, ◌⊎◌, inl, inr}
 use Rattle.std.proofs.lemmas.Bool.{cases_lt}
-use Rattle.gup_image.specs.Gathered.{gathered, at_place, along}
+use Rattle.gup_image.specs.Gathered.{gathered, at_place}
 
 pub gathered-none : {X : Type 0} (of : ℕ → List X) → gathered of 0 ≡ []
 unfolding gathered

@@ -2,7 +2,9 @@ ghost use Rattle.std.specs.Prelude.{◌≡◌, ◌<◌, ◌≤◌, ◌^◌, true
 ghost use Rattle.gup_script.specs.Valid.{IsOp, IsPages};
 ghost use Rattle.gup_op_pages.specs.Alone.{IsAlone};
 
-use gup_base::{ActorNo, Entry, FrameNo, HandleNo, NoMemory, PageNo, ProcNo, Rights, Want, WordNo, Zone};
+use gup_base::{
+    ActorNo, Entry, FrameNo, HandleNo, NoMemory, PageNo, ProcNo, Rights, Want, WordNo, Zone,
+};
 use gup_core::Machine;
 use gup_image::Fact;
 use gup_op_base::JobPlace;

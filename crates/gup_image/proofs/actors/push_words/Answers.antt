@@ -1,4 +1,4 @@
-use Rattle.std.proofs.Common.{◌≡◌, ◌<◌, ◌∙◌, ◌++◌, ap, Some, slice_get, length, get_or, refl, arith}
+use Rattle.std.proofs.Common.{◌<◌, ◌∙◌, ◌++◌, ap, length, get_or, refl, arith}
 use Rattle.std.proofs.lemmas.Option.{slice_get-get_or}
 use Rattle.gup_image.specs.Image.{stored_fact}
 use Rattle.gup_image.proofs.Gathered.{along-at}

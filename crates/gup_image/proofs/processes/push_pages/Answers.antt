@@ -1,7 +1,6 @@
-use Rattle.std.proofs.Common.{◌≡◌, ◌+◌, ◌<◌, ◌≤◌, ◌^◌, ◌++◌, ◌∙◌, ℕ, List, ap, subst, sym, arith}
+use Rattle.std.proofs.Common.{◌+◌, ◌<◌, ◌≤◌, ◌^◌, ◌++◌, ◌∙◌, ℕ, ap, sym, arith}
 use Rattle.gup_plain.specs.Pages.{page_numbers}
 use Rattle.gup_space.specs.Space.{space_of}
-use Rattle.gup_image.specs.declared.fact.Fact.{Fact}
 use Rattle.gup_image.specs.Gathered.{gathered}
 use Rattle.gup_image.specs.Image.{pages}
 use Rattle.gup_image.proofs.Pages.{page_put, pages_all}

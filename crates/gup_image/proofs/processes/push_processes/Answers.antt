@@ -1,8 +1,8 @@
 use Rattle.std.proofs.Common.{◌≡◌, ◌<◌, ◌++◌, ◌∙◌, ap, sym, Option, Some, slice_get, length, refl, arith}
 use Rattle.std.proofs.lemmas.Option.{slice_get_read}
-use Rattle.gup_space.specs.Space.{SpaceParts, space_of}
+use Rattle.gup_space.specs.Space.{SpaceParts}
 use Rattle.gup_op_waits.specs.declared.births.Birth.{Birth}
-use Rattle.gup_image.specs.Image.{born_facts, process_facts}
+use Rattle.gup_image.specs.Image.{born_facts}
 use Rattle.gup_image.proofs.Gathered.{along-at}
 use Rattle.gup_image.proofs.processes.push_processes.Goals as goal
 
