@@ -6,7 +6,7 @@ use gup_base::{
     ActorNo, Entry, FrameNo, HandleNo, NoMemory, PageNo, ProcNo, Rights, Want, WordNo, Zone,
 };
 use gup_core::Machine;
-use gup_image::Fact;
+use gup_image::{Fact, KeptFact};
 use gup_op_base::JobPlace;
 use gup_op_waits::Birth;
 use gup_plain::{Answer, PlainEvent, Waiting, What};
@@ -446,7 +446,7 @@ fn references_wait_for_forks(rt: HostRuntime) -> Result<(), Fail> {
     Ok(())
 }
 
-fn image(alloc: Global, machine: &Machine) -> Result<Vec<Fact>, Fail> {
+fn image(alloc: Global, machine: &Machine) -> Result<Vec<KeptFact>, Fail> {
     match machine.image(alloc) {
         Ok(facts) => Ok(facts),
         Err(NoMemory) => Err("memory".into()),
@@ -543,7 +543,7 @@ fn an_image_has_what_turns_have_led_to(rt: HostRuntime) -> Result<(), Fail> {
     let told = image(alloc, &after(alloc, &[0, 0])?)?;
     assert_eq!(rt; told.len(), facts.len());
     for (fact, wanted) in told.iter().zip(&facts) {
-        assert_eq!(rt; *fact, *wanted);
+        assert_eq!(rt; fact.fact(), *wanted);
     }
     Ok(())
 }
