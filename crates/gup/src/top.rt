@@ -17,11 +17,8 @@ ghost use Rattle.gup.specs.Cause.{HasCauses};
 ghost use Rattle.gup_spec_journal.specs.Stale.{AreStaleSeen};
 ghost use Rattle.gup.specs.Stuck.{IsFinishedRun, IsStuckRun, run_text};
 ghost use Rattle.gup.specs.Report.{IsRun, IsMake, IsCommand, IsStatus, IsMadeStatus, HasRun, OfScript, AreScript, IsEndOfRun, IsToldRun, IsMadeRun, IsPartlyTold, IsEnd, IsScriptOf, IsUnreadFor, IsRefusedFor, IsReadThrough, IfFault, usage, refusal_text};
-ghost use Rattle.gup.specs.Summary.{summary_text};
-ghost use Rattle.gup_core.specs.Machine.{Shows};
 ghost use Rattle.gup_make.specs.Made.{made_text};
 ghost use Rattle.gup_spec_grammar.specs.Grammar.{Accepts};
-ghost use Rattle.gup_spec_turns.specs.Cause.{WaitsForBirthOrPin};
 
 use crate::command::{Command, command_of};
 use crate::summary::summary_lines;

@@ -43,7 +43,7 @@ still_taken m a seat turns what here count still r h =
     record {
       said = says_so m r a seat turns (record { events = []; whats = what ∷ [] }) (what ∷ []) h here count is.0 refl;
       shown = stays m r a seat turns what h here is.0 is.1;
-      counted = count;
+      counts = count;
     }
 
 -- the turn of an actor that waits changes nothing

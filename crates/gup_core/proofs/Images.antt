@@ -6,10 +6,10 @@ use Rattle.gup_script.specs.declared.op.Op.{Op}
 use Rattle.gup_script.specs.declared.op.Op.TheVariants.{Pin, Fork, Move}
 use Rattle.gup_script.specs.Script.{ScriptValue}
 use Rattle.gup_script.specs.Valid.{IsScript}
-use Rattle.gup_spec_events.specs.State.{CoreState, Taken, Job, idle, marking, moving, forking, walking, ForkStep, between, counted, lowered, cleared, copying, failing, WalkStep, dropping}
+use Rattle.gup_spec_events.specs.State.{Taken, Job, idle, marking, moving, forking, walking, between, counted, lowered, cleared, copying, failing, WalkStep, dropping}
 use Rattle.gup_spec_journal.specs.Place.{doer, present_op, process_of}
 use Rattle.gup_spec_turns.specs.Run.{RunState}
-use Rattle.gup_spec_turns.specs.JobPlace.{JobPlace, job_place, place_in, in_walk, KeepsNoJob, StandsFork, StandsMove}
+use Rattle.gup_spec_turns.specs.JobPlace.{job_place, place_in, in_walk, KeepsNoJob, StandsFork, StandsMove}
 use Rattle.gup_spec_turns.specs.PinPlace.{IsWalkingPin, StandsAtPage}
 use Rattle.gup_law_turns.specs.Standing.{IsStanding}
 use Rattle.gup_notify.specs.Mirrors.{mirrors_of}
@@ -23,7 +23,7 @@ use Rattle.gup_op_waits.specs.Parts.{ShowsParts}
 use Rattle.gup_op_waits.specs.Seats.{IsSeat}
 use Rattle.gup_op_waits.specs.declared.seats.Seat.{Seat}
 use Rattle.gup_image.specs.declared.fact.Fact.{Fact}
-use Rattle.gup_law_image.specs.Alike.{Imaged, AreOfOne, IsSameSeat, AreSameSeats, image_in}
+use Rattle.gup_law_image.specs.Alike.{AreOfOne, AreSameSeats}
 use Rattle.gup_core.specs.Machine.{MachineValue, Shows, IsReached}
 use Rattle.gup_core.specs.Images.{imaged, IsImage}
 use Rattle.gup_core.proofs.Resting.{Stand, standing}

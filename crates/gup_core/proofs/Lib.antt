@@ -20,3 +20,5 @@ pub mod Advancing
 pub mod WordTurns
 pub mod Emptied
 pub mod Images
+pub mod Sized
+pub mod Journals

@@ -1,5 +1,5 @@
 -- The three kinds of turn of an actor: idle, waiting, and a turn of its operation.
-use Rattle.std.proofs.Common.{◌≡◌, ◌⊎◌, inl, inr, arith, ℕ, ◌+◌, ◌-◌, ◌^◌, ◌==◌, Bool, true, false, cond, List, [], ◌∷◌, length, min, slice_get, Option, Some, None, is_some, refl, sym, ap, ◌∙◌, subst, eqb-true, arith}
+use Rattle.std.proofs.Common.{◌≡◌, ◌⊎◌, inl, inr, arith, ℕ, ◌+◌, ◌==◌, Bool, true, false, cond, List, [], ◌∷◌, length, slice_get, Option, Some, None, is_some, refl, sym, ap, ◌∙◌, subst, eqb-true, arith}
 use Rattle.std.proofs.lemmas.Bool.Decides.{nat_tests}
 use Rattle.gup_plain.specs.Note.{NoteValue}
 use Rattle.gup_plain.specs.declared.answer.Answer.{Answer}
@@ -145,7 +145,7 @@ idles m a seat turns here none count r h =
     record {
       said = says_so m r a seat turns (record { events = []; whats = Idle ∷ [] }) (Idle ∷ []) h here count is refl;
       shown = stays m r a seat turns Idle h here is refl;
-      counted = count;
+      counts = count;
     }
 
 -- what is known of the actor's waiting from every state that the machine shows
@@ -174,7 +174,7 @@ waits m a seat op turns waiting here present count waiting_so r h =
     record {
       said = says_so m r a seat turns (record { events = []; whats = Wait waiting ∷ [] }) (Wait waiting ∷ []) h here count is refl;
       shown = stays m r a seat turns (Wait waiting) h here is refl;
-      counted = count;
+      counts = count;
     }
 
 -- ---- a turn of an operation
@@ -323,7 +323,7 @@ goes m a proc seat next op parts mirrors seats turns said job stand empties rest
             | inr first ↦ none_left job ((run r.core t.events).taken a) (led.shown.job ∙ rests_then first)
           ])))
           led.shown.left);
-      counted = count;
+      counts = count;
     }
   where
     some_op : {o x : Op} → Some o ≡ Some x → o ≡ x

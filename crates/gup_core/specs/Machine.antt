@@ -61,7 +61,7 @@ pub record Shows (m : MachineValue) (r : RunState) : Type 0 where
 pub record TakesTurn (old new : MachineValue) (actor : ℕ) (r : RunState) (notes : List NoteValue) : Type 0 where
   pub said : notes ≡ notes_of_turn (counted old.turns) actor ((r.places actor).answered + 1) (core_turn_in old.script r actor).whats
   pub shown : Shows new (run_after old.script r actor)
-  pub counted : new.turns ≡ counted old.turns
+  pub counts : new.turns ≡ counted old.turns
 
 -- so it is from each state that the machine shows
 abbrev pub TakesTurns : (old new : MachineValue) → (actor : ℕ) → List NoteValue → Type 0

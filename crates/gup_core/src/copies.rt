@@ -18,6 +18,7 @@ ghost use Rattle.gup_op_waits.specs.Seats.{seat_behind};
 use gup_base::{FrameNo, PageNo, ProcNo, WordNo};
 use gup_op_base::{Head, JobPlace};
 use gup_op_fork::word_turn;
+use gup_op_waits::seats::Seat;
 use gup_op_waits::{Birth, Parts, birth_of, set_birth};
 use gup_plain::Journal;
 use gup_script::Op;

@@ -19,7 +19,7 @@ use crate::slots::take_turn;
 use crate::takes::waits_at;
 use crate::turns::{next_turn, op_at, ops, process};
 use gup_base::{ActorNo, NoMemory, Zone};
-use gup_image::{Fact, image, is_whole};
+use gup_image::{KeptFact, image, is_whole};
 use gup_notify::Mirrors;
 use gup_op_base::{Head, JobPlace};
 use gup_op_waits::parts::{self, Parts};
@@ -275,7 +275,7 @@ impl Inner {
     }
 
     /// The image.
-    pub(crate) fn image(&self, alloc: Global) -> Result<Vec<Fact>, NoMemory>
+    pub(crate) fn image(&self, alloc: Global) -> Result<Vec<KeptFact>, NoMemory>
         ensures { IfOk result (λ facts. IsImage self.now facts.items) }
     {
         self.has_image();

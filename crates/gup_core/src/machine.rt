@@ -13,8 +13,10 @@ use crate::inner::Inner;
 use crate::outcome::Advanced;
 use crate::turn::Turn;
 use gup_base::{ActorNo, NoMemory, Zone};
-use gup_image::Fact;
-use gup_law_image::{images_are_exact as facts_are_exact, images_are_of_states as facts_are_of_states};
+use gup_image::KeptFact;
+use gup_law_image::{
+    images_are_exact as facts_are_exact, images_are_of_states as facts_are_of_states,
+};
 use gup_law_turns::reached_states_stand;
 use gup_plain::{Journal, Waiting};
 use gup_script::Script;
@@ -133,7 +135,7 @@ impl Machine {
 
     /// The image of the machine: the facts of all that its next turns rest on, but not how many turns are over. Machines of one
     /// script have the same image exactly where they show the same states ([`images_are_exact`], [`images_are_of_states`]).
-    pub fn image(&self, alloc: Global) -> Result<Vec<Fact>, NoMemory>
+    pub fn image(&self, alloc: Global) -> Result<Vec<KeptFact>, NoMemory>
         ensures { IfOk result (λ facts. IsImage self.now facts.items) }
     {
         self.inner.image(alloc)

@@ -44,6 +44,7 @@ use gup_op_fork::{Forked, fork};
 use gup_op_move::take_move;
 use gup_op_pages::take;
 use gup_op_pins::{PinCall, get, give, pin, put, take_over, unpin};
+use gup_op_waits::seats::Seat;
 use gup_op_waits::{Birth, Parts, child_of, set_birth, waits_for};
 use gup_plain::{Answer, Journal, PlainEvent, Waiting};
 use gup_script::Op;

@@ -31,8 +31,11 @@ abbrev pub word_fact : (f w value : ℕ) → List Fact
 word_fact f w zero = []
 word_fact f w (suc n) = Word f w (suc n) ∷ []
 
+abbrev pub words_of_frame : FramesValue → (f w : ℕ) → List Fact
+words_of_frame s f w = word_fact f w (s.word f w)
+
 abbrev pub frame_facts : FramesValue → (f : ℕ) → List Fact
-frame_facts s f = frame_fact f (s.count f) (s.mark f) ++ gathered (λ w. word_fact f w (s.word f w)) words
+frame_facts s f = frame_fact f (s.count f) (s.mark f) ++ gathered (words_of_frame s f) words
 
 -- ---- a process, and its mapped pages
 
@@ -40,10 +43,13 @@ abbrev pub page_fact : (p page : ℕ) → Option Rights → Option Entry → Lis
 page_fact p page None entry = []
 page_fact p page (Some rights) entry = Page p rights entry page ∷ []
 
+abbrev pub pages : (p : ℕ) → SpaceValue → (page : ℕ) → List Fact
+pages p s page = page_fact p page (s.right page) (s.entry page)
+
 abbrev pub process_facts : (p : ℕ) → Birth → SpaceValue → List Fact
 process_facts p birth s =
     Process p birth s.has_pinned s.structure s.table s.pages s.sequence
-    ∷ gathered (λ page. page_fact p page (s.right page) (s.entry page)) page_numbers
+    ∷ gathered (pages p s) page_numbers
 
 abbrev pub born_facts : (p : ℕ) → Option Birth → SpaceParts → List Fact
 born_facts p None space = []

@@ -6,7 +6,7 @@ ghost use Rattle.gup_image.specs.declared.fact.Fact.TheVariants.{Taken};
 ghost use Rattle.gup_image.specs.Gathered.{along};
 ghost use Rattle.gup_image.specs.Image.{stored_fact, store_facts, read_page, read_job, seat_fact};
 
-use crate::fact::Fact;
+use crate::fact::{Fact, KeptFact, put};
 use arrayvec::ArrayVec;
 use gup_base::{ActorNo, FrameNo, NoMemory, PageNo};
 use gup_device::Store;
@@ -22,7 +22,7 @@ fn actor_no(a: usize) -> ActorNo
 
 /// What the running pins of all actors have taken.
 pub(crate) fn push_taken(
-    facts: &mut Vec<Fact>,
+    facts: &mut Vec<KeptFact>,
     taken: &Vec<ArrayVec<FrameNo, 16>>,
 ) -> Result<(), NoMemory>
     requires { length taken.now.items ≤ 81 }
@@ -35,62 +35,102 @@ pub(crate) fn push_taken(
     Ok(())
 }
 
-fn push_taken_by(facts: &mut Vec<Fact>, actor: ActorNo, frames: &[FrameNo]) -> Result<(), NoMemory>
+fn push_taken_by(
+    facts: &mut Vec<KeptFact>,
+    actor: ActorNo,
+    frames: &[FrameNo],
+) -> Result<(), NoMemory>
     requires { length frames.now ≤ 16 }
     ensures { OnOk result (facts.new.items ≡ facts.old.items ++ along (λ k frame. Taken actor k frame ∷ []) frames.now) }
 {
-    for place in 0..frames.len() as u8 {
-        facts.push(Fact::Taken {
-            actor,
-            place,
-            frame: frames[usize::from(place)],
-        })?;
+    for place in 0..frames.len() {
+        let frame = frames[place];
+        put(
+            facts,
+            Fact::Taken {
+                actor,
+                place: place as u8,
+                frame,
+            },
+        )?;
     }
     Ok(())
 }
 
 /// The words of all devices.
 pub(crate) fn push_stores(
-    facts: &mut Vec<Fact>,
+    facts: &mut Vec<KeptFact>,
     stores: &Vec<Option<Store>>,
 ) -> Result<(), NoMemory>
     requires { length stores.now.items ≤ 81 }
     ensures { OnOk result (facts.new.items ≡ facts.old.items ++ along store_facts stores.now.items) }
 {
     for a in 0..stores.len() {
-        if let Some(store) = &stores[a] {
-            push_store(facts, actor_no(a), store)?;
-        }
+        push_store(facts, actor_no(a), &stores[a])?;
     }
     Ok(())
 }
 
-fn push_store(facts: &mut Vec<Fact>, actor: ActorNo, store: &Store) -> Result<(), NoMemory>
+fn push_store(
+    facts: &mut Vec<KeptFact>,
+    actor: ActorNo,
+    store: &Option<Store>,
+) -> Result<(), NoMemory>
+    ensures { OnOk result (facts.new.items ≡ facts.old.items ++ store_facts actor store.now) }
+{
+    match store {
+        Some(store) => push_words(facts, actor, store),
+        None => Ok(()),
+    }
+}
+
+fn push_words(facts: &mut Vec<KeptFact>, actor: ActorNo, store: &Store) -> Result<(), NoMemory>
     ensures { OnOk result (facts.new.items ≡ facts.old.items ++ along (stored_fact actor) store.now) }
 {
     for slot in 0..store.words() {
-        let value = store.word(slot);
-        if value > 0 {
-            facts.push(Fact::Stored { actor, slot, value })?;
-        }
+        push_word(facts, actor, slot, store.word(slot))?;
+    }
+    Ok(())
+}
+
+#[inline]
+fn push_word(
+    facts: &mut Vec<KeptFact>,
+    actor: ActorNo,
+    slot: u16,
+    value: u64,
+) -> Result<(), NoMemory>
+    ensures { OnOk result (facts.new.items ≡ facts.old.items ++ stored_fact actor slot value) }
+{
+    if value > 0 {
+        put(facts, Fact::Stored { actor, slot, value })?;
     }
     Ok(())
 }
 
 /// Where all actors stand.
-pub(crate) fn push_seats(facts: &mut Vec<Fact>, seats: &Vec<Seat>) -> Result<(), NoMemory>
+pub(crate) fn push_seats(facts: &mut Vec<KeptFact>, seats: &Vec<Seat>) -> Result<(), NoMemory>
     requires { length seats.now.items ≤ 81 }
     ensures { OnOk result (facts.new.items ≡ facts.old.items ++ along seat_fact seats.now.items) }
 {
     for a in 0..seats.len() {
-        let seat = seats[a];
-        facts.push(Fact::Stands {
-            actor: actor_no(a),
+        push_seat(facts, actor_no(a), seats[a])?;
+    }
+    Ok(())
+}
+
+fn push_seat(facts: &mut Vec<KeptFact>, actor: ActorNo, seat: Seat) -> Result<(), NoMemory>
+    ensures { OnOk result (facts.new.items ≡ facts.old.items ++ seat_fact actor seat) }
+{
+    put(
+        facts,
+        Fact::Stands {
+            actor,
             far: seat.far,
             answered: seat.answered,
             job: read_part(seat.job),
-        })?;
-    }
+        },
+    )?;
     Ok(())
 }
 
@@ -105,15 +145,15 @@ fn read_part(job: JobPlace) -> JobPlace
             sequence,
         } => JobPlace::Walking {
             place,
-            page: page_read(place, page),
+            page: page_read(&place, page),
             sequence,
         },
         _ => job,
     }
 }
 
-fn page_read(place: WalkPlace, page: PageNo) -> PageNo
-    ensures { result ≡ read_page place page }
+fn page_read(place: &WalkPlace, page: PageNo) -> PageNo
+    ensures { result ≡ read_page place.now page }
 {
     match place {
         WalkPlace::Read(_) | WalkPlace::Grabbed(_) | WalkPlace::Rechecked(_) => page,

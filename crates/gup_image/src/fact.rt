@@ -1,14 +1,22 @@
 //! Facts of a machine.
-use gup_base::{ActorNo, Entry, FrameNo, HandleNo, MirrorNo, PageNo, ProcNo, Rights, WordNo};
+ghost use Rattle.std.specs.Prelude.{◌≡◌, ◌++◌, [], ◌∷◌, OnOk};
+
+use gup_base::{
+    ActorNo, Entry, FrameNo, HandleNo, MirrorNo, NoMemory, PageNo, ProcNo, Rights, WordNo,
+};
 use gup_op_base::JobPlace;
 use gup_op_waits::Birth;
+use std::marker::Model;
 
 /// Something that is true of a machine. What isn't said is as at the start: a frame is free and its words are 0, a page isn't mapped, a
 /// handle is unmade, a slot is empty.
 #[derive(Clone, Copy, Debug, PartialEq, Eq, Hash)]
 pub enum Fact {
     /// So many frames are of either zone.
-    Zones { movable: u32, normal: u32 },
+    Zones {
+        movable: u32,
+        normal: u32,
+    },
     /// The frame has references, or is marked as exclusive.
     Frame {
         mark: bool,
@@ -58,7 +66,9 @@ pub enum Fact {
         handle: HandleNo,
     },
     /// A pin that is given back.
-    Gone { handle: HandleNo },
+    Gone {
+        handle: HandleNo,
+    },
     /// The frame that the actor's running pin has taken at this place.
     Taken {
         actor: ActorNo,
@@ -86,4 +96,37 @@ pub enum Fact {
         answered: u32,
         job: JobPlace,
     },
+}
+
+/// A fact as an image keeps it. Contracts see the fact.
+#[derive(Clone, Copy, Debug, PartialEq, Eq, Hash)]
+pub struct KeptFact {
+    fact: Fact,
+}
+
+impl Model for KeptFact {
+    ghost use Rattle.gup_image.specs.declared.fact.Fact.{Fact as FactValue};
+
+    ghost Value = { FactValue };
+
+    ghost view = { λ k. k.fact };
+
+    ghost inverse = { λ v. record { fact = v } };
+}
+
+impl KeptFact {
+    /// The fact.
+    pub fn fact(&self) -> Fact
+        ensures { result ≡ self.now }
+    {
+        self.fact
+    }
+}
+
+/// Puts a fact on at the end.
+pub(crate) fn put(facts: &mut Vec<KeptFact>, fact: Fact) -> Result<(), NoMemory>
+    ensures { OnOk result (facts.new.items ≡ facts.old.items ++ fact ∷ []) }
+{
+    facts.push(KeptFact { fact })?;
+    Ok(())
 }

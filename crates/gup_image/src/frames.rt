@@ -1,11 +1,11 @@
 //! The facts of frames.
-ghost use Rattle.std.specs.Prelude.{◌≡◌, ℕ, ◌++◌, OnOk};
+ghost use Rattle.std.specs.Prelude.{◌≡◌, ◌++◌, ◌<◌, ◌≤◌, OnOk};
 ghost use Rattle.gup_plain.specs.Event.{words};
 ghost use Rattle.gup_frames.specs.Frames.{frames_of, frames_in, IsFrame};
 ghost use Rattle.gup_image.specs.Gathered.{gathered};
-ghost use Rattle.gup_image.specs.Image.{frame_fact, word_fact, frame_facts};
+ghost use Rattle.gup_image.specs.Image.{frame_fact, words_of_frame, frame_facts};
 
-use crate::fact::Fact;
+use crate::fact::{Fact, KeptFact, put};
 use gup_base::{FrameNo, NoMemory, WordNo};
 use gup_frames::Frames;
 
@@ -13,56 +13,79 @@ use gup_frames::Frames;
 const WORDS: u16 = 512;
 
 /// Those of all frames.
-pub(crate) fn push_frames(facts: &mut Vec<Fact>, frames: &Frames) -> Result<(), NoMemory>
+pub(crate) fn push_frames(facts: &mut Vec<KeptFact>, frames: &Frames) -> Result<(), NoMemory>
+    requires { frames_in (frames_of frames.now) ≤ 1024 }
     ensures { OnOk result (facts.new.items
         ≡ facts.old.items ++ gathered (frame_facts (frames_of frames.now)) (frames_in (frames_of frames.now))) }
 {
     for f in 0..frames.movable() + frames.normal() {
-        let frame = FrameNo::new(u64::from(f)).unwrap();
-        push_frame(facts, frames, frame)?;
-        push_words(facts, frames, frame)?;
+        push_frame(facts, frames, frame_no(f))?;
     }
     Ok(())
 }
 
-fn push_frame(facts: &mut Vec<Fact>, frames: &Frames, frame: FrameNo) -> Result<(), NoMemory>
-    requires { IsFrame (frames_of frames.now) frame }
-    ensures { OnOk result (facts.new.items
-        ≡ facts.old.items ++ frame_fact frame ((frames_of frames.now).count frame) ((frames_of frames.now).mark frame)) }
+fn frame_no(f: u32) -> FrameNo
+    requires { f < 16384 }
+    ensures { result ≡ f }
 {
-    let count = frames.count(frame);
-    let mark = frames.mark(frame);
+    FrameNo::new(u64::from(f)).unwrap()
+}
+
+fn push_frame(facts: &mut Vec<KeptFact>, frames: &Frames, frame: FrameNo) -> Result<(), NoMemory>
+    requires { IsFrame (frames_of frames.now) frame }
+    ensures { OnOk result (facts.new.items ≡ facts.old.items ++ frame_facts (frames_of frames.now) frame) }
+{
+    push_count(facts, frame, frames.count(frame), frames.mark(frame))?;
+    push_words(facts, frames, frame)
+}
+
+fn push_count(
+    facts: &mut Vec<KeptFact>,
+    frame: FrameNo,
+    count: u64,
+    mark: bool,
+) -> Result<(), NoMemory>
+    ensures { OnOk result (facts.new.items ≡ facts.old.items ++ frame_fact frame count mark) }
+{
     if count > 0 || mark {
-        facts.push(Fact::Frame { mark, frame, count })?;
+        put(facts, Fact::Frame { mark, frame, count })?;
     }
     Ok(())
 }
 
-fn push_words(facts: &mut Vec<Fact>, frames: &Frames, frame: FrameNo) -> Result<(), NoMemory>
+fn push_words(facts: &mut Vec<KeptFact>, frames: &Frames, frame: FrameNo) -> Result<(), NoMemory>
     requires { IsFrame (frames_of frames.now) frame }
     ensures { OnOk result (facts.new.items
-        ≡ facts.old.items ++ gathered (λ w. word_fact frame w ((frames_of frames.now).word frame w)) words) }
+        ≡ facts.old.items ++ gathered (words_of_frame (frames_of frames.now) frame) words) }
 {
     for w in 0..WORDS {
-        push_word(facts, frames, frame, WordNo::new(u64::from(w)).unwrap())?;
+        push_word(facts, frames, frame, word_no(w))?;
     }
     Ok(())
 }
 
 #[inline]
+fn word_no(w: u16) -> WordNo
+    requires { w < 512 }
+    ensures { result ≡ w }
+{
+    WordNo::new(u64::from(w)).unwrap()
+}
+
+#[inline]
 fn push_word(
-    facts: &mut Vec<Fact>,
+    facts: &mut Vec<KeptFact>,
     frames: &Frames,
     frame: FrameNo,
     word: WordNo,
 ) -> Result<(), NoMemory>
     requires { IsFrame (frames_of frames.now) frame }
     ensures { OnOk result (facts.new.items
-        ≡ facts.old.items ++ word_fact frame word ((frames_of frames.now).word frame word)) }
+        ≡ facts.old.items ++ words_of_frame (frames_of frames.now) frame word) }
 {
     let value = frames.word(frame, word);
     if value > 0 {
-        facts.push(Fact::Word { frame, word, value })?;
+        put(facts, Fact::Word { frame, word, value })?;
     }
     Ok(())
 }

@@ -53,7 +53,7 @@ underway_turn script m n notes told r a next few kept taken u =
     record {
       same = kept ∙ u.same;
       shown = subst (λ (s : ScriptValue). Shows n (run_after s r a)) u.same taken.shown;
-      counts = taken.counted ∙ counted_next m.turns r.turns u.counts;
+      counts = taken.counts ∙ counted_next m.turns r.turns u.counts;
       actors = u.actors ++ a ∷ [];
       reached = turned_on script (run_start script) u.actors a ∙ ap (λ (s : RunState). run_after script s a) u.reached;
       goes_on =
@@ -160,7 +160,7 @@ pointed_turn script costs m n notes told pointer r a is kept takes h =
     let bound = costs.few in
     let few : r.turns < 2 ^ 32 - 1 = omega (arith, cheap, bound) in
     let before : m.turns ≡ r.turns = let counts = h.underway.counts in grind (arith, nat_tests) in
-    let after : n.turns ≡ r.turns + 1 = let counts = h.underway.counts in let one = takes.counted in grind (arith, nat_tests) in (
+    let after : n.turns ≡ r.turns + 1 = let counts = h.underway.counts in let one = takes.counts in grind (arith, nat_tests) in (
       record {
         underway = underway_turn script m n notes told r a next few kept takes h.underway;
         pointer = ap (λ (o : Option ℕ). pointer_after (length script.actors) r.pointer o a) written;

@@ -2,8 +2,13 @@ ghost use Rattle.std.specs.Prelude.{◌≡◌, ◌<◌, ◌≤◌, ◌^◌, true
 ghost use Rattle.gup_script.specs.Valid.{IsOp, IsPages};
 ghost use Rattle.gup_op_pages.specs.Alone.{IsAlone};
 
-use gup_base::{ActorNo, HandleNo, NoMemory, PageNo, ProcNo, Rights, Want, WordNo, Zone};
+use gup_base::{
+    ActorNo, Entry, FrameNo, HandleNo, NoMemory, PageNo, ProcNo, Rights, Want, WordNo, Zone,
+};
 use gup_core::Machine;
+use gup_image::{Fact, KeptFact};
+use gup_op_base::JobPlace;
+use gup_op_waits::Birth;
 use gup_plain::{Answer, PlainEvent, Waiting, What};
 use gup_script::{Actor, Contents, Kind, Op, Process, Script};
 use std::alloc::Global;
@@ -438,5 +443,120 @@ fn references_wait_for_forks(rt: HostRuntime) -> Result<(), Fail> {
     assert_eq!(rt; machine.free_frames(Zone::Normal), 1);
     turn(&rt, &mut machine, 4, &[DONE]);
     turn(&rt, &mut machine, 4, &[NOT_HELD]);
+    Ok(())
+}
+
+fn image(alloc: Global, machine: &Machine) -> Result<Vec<KeptFact>, Fail> {
+    match machine.image(alloc) {
+        Ok(facts) => Ok(facts),
+        Err(NoMemory) => Err("memory".into()),
+    }
+}
+
+// A machine that has taken turns of these actors, two of which map a page and store a word.
+fn after(alloc: Global, order: &[u8]) -> Result<Machine, Fail> {
+    let first = Vec::from_array(alloc, [map(5, 1), store(5, 9)])?;
+    let second = Vec::from_array(alloc, [map(6, 1), store(6, 8)])?;
+    let mut machine = machine(alloc, first, second, Vec::new(alloc))?;
+    for number in order {
+        if *number < 6 {
+            let _notes = machine.turn(actor(u64::from(*number)));
+        }
+    }
+    Ok(machine)
+}
+
+// A process of which nothing is mapped.
+fn bare(number: u64, birth: Birth) -> Fact
+    requires number { number < 3 }
+{
+    Fact::Process {
+        proc: proc(number),
+        birth,
+        has_pinned: false,
+        structure: None,
+        table: None,
+        pages: 0,
+        sequence: 0,
+    }
+}
+
+fn stands(number: u64, answered: u32) -> Fact
+    requires number { number < 6 }
+{
+    Fact::Stands {
+        actor: actor(number),
+        far: 0,
+        answered,
+        job: JobPlace::Unbegun,
+    }
+}
+
+#[test]
+fn an_image_has_what_turns_have_led_to(rt: HostRuntime) -> Result<(), Fail> {
+    let alloc = rt.alloc();
+    let frame = FrameNo::new(0).unwrap();
+    let mapped = Fact::Process {
+        proc: proc(0),
+        birth: Birth::Born,
+        has_pinned: false,
+        structure: None,
+        table: None,
+        pages: 1,
+        sequence: 0,
+    };
+    let page = Fact::Page {
+        proc: proc(0),
+        rights: Rights::RW,
+        entry: Some(Entry {
+            frame,
+            writable: true,
+        }),
+        page: page(5),
+    };
+    let facts = [
+        Fact::Zones {
+            movable: 1,
+            normal: 1,
+        },
+        Fact::Frame {
+            mark: true,
+            frame,
+            count: 1,
+        },
+        Fact::Word {
+            frame,
+            word: word(),
+            value: 9,
+        },
+        mapped,
+        page,
+        bare(1, Birth::Born),
+        bare(2, Birth::Unborn),
+        stands(0, 2),
+        stands(1, 0),
+        stands(2, 0),
+        stands(3, 0),
+        stands(4, 0),
+        stands(5, 0),
+    ];
+    let told = image(alloc, &after(alloc, &[0, 0])?)?;
+    assert_eq!(rt; told.len(), facts.len());
+    for (fact, wanted) in told.iter().zip(&facts) {
+        assert_eq!(rt; fact.fact(), *wanted);
+    }
+    Ok(())
+}
+
+#[test]
+fn images_are_the_same_where_states_are(rt: HostRuntime) -> Result<(), Fail> {
+    let alloc = rt.alloc();
+    let told = image(alloc, &after(alloc, &[0, 1, 0, 1])?)?;
+    // The order of the two maps leaves nothing behind, nor do the turns of one that waits and of one that has finished.
+    assert!(rt; told == image(alloc, &after(alloc, &[1, 0, 0, 1])?)?);
+    assert!(rt; told == image(alloc, &after(alloc, &[2, 0, 1, 0, 0, 1, 2])?)?);
+    // That of the two stores does: the first one takes the movable frame.
+    assert!(rt; told != image(alloc, &after(alloc, &[0, 1, 1, 0])?)?);
+    assert!(rt; told != image(alloc, &after(alloc, &[0, 1, 0])?)?);
     Ok(())
 }

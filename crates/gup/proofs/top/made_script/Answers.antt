@@ -1,4 +1,4 @@
-use Rattle.std.proofs.Common.{◌≡◌, ℕ, List, sym, subst}
+use Rattle.std.proofs.Common.{ℕ, List, sym, subst}
 use Rattle.gup_spec_grammar.specs.declared.fault.ReadRefusal.{ReadRefusal}
 use Rattle.gup_spec_grammar.specs.Fault.{HasFault, IsRefusalOf}
 use Rattle.gup_spec_grammar.specs.Grammar.{Accepts}

@@ -1,14 +1,12 @@
-use Rattle.std.proofs.Common.{◌≡◌, ℕ, ◌+◌, ◌*◌, ◌≤◌, Bool, false, Result, Ok, Err, refl, List, [], Some, length, subst, ◌∙◌}
+use Rattle.std.proofs.Common.{◌≡◌, ◌+◌, ◌*◌, ◌≤◌, Bool, false, Result, Ok, Err, refl, [], length, subst, ◌∙◌}
 use Rattle.std.specs.Prelude.{IfOk}
-use Rattle.gup_base.specs.declared.memory.NoMemory.{NoMemory}
-use Rattle.gup_plain.specs.Note.{NoteValue}
 use Rattle.gup_script.specs.Script.{ScriptValue}
 use Rattle.gup_spec_journal.specs.Place.{first_place}
 use Rattle.gup_spec_journal.specs.Plain.{AreSo, IsRightAt, judged_first}
 use Rattle.gup_spec_turns.specs.Cause.{HaveFinished}
 use Rattle.gup_spec_turns.specs.Cost.{operations, forks}
 use Rattle.gup_spec_turns.specs.Run.{RunState, run_start, IsCoreRun}
-use Rattle.gup_core.specs.Machine.{MachineValue, Shows}
+use Rattle.gup_core.specs.Machine.{Shows}
 use Rattle.gup_sched.specs.Ran.{SaysStuck}
 use Rattle.gup_sched.specs.declared.run.Run.{Run}
 use Rattle.gup.specs.Report.{IsEndOfRun}

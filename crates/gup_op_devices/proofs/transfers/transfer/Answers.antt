@@ -43,7 +43,7 @@ returns-else-found-clause-turn c =
       ends = c.if-found.false;
       is_so =
           found_turn F F1 H a.store.now c.in-Some.store c.move_word-value.new.store actor a.handle word.frame a.slot a.parts.now a.far place.index place.slot c.move_word-value.result a.outward false
-          c.in-Some.is (unrefused (H a.handle) actor a.outward a.store.now c.slots_of-slots.result a.slot a.parts.now c.new-job.result c.slots_of-slots.ensures.slots c.new-job.ensures c.in-Ok.ensures.unrefused)
+          c.in-Some.is (unrefused (H a.handle) actor a.outward a.store.now c.slots_of-slots.result a.slot a.parts.now c.new-job.result c.slots_of-slots.ensures c.new-job.ensures c.in-Ok.ensures.unrefused)
           c.requires.within found c.move_word-value.ensures;
     }
 
@@ -83,7 +83,7 @@ returns-then-found-clause-turn c =
       ends = c.if-found.true;
       is_so =
           found_turn F F1 H a.store.now c.in-Some.store c.move_word-value.new.store actor a.handle word.frame a.slot a.parts.now a.far place.index place.slot c.move_word-value.result a.outward true
-          c.in-Some.is (unrefused (H a.handle) actor a.outward a.store.now c.slots_of-slots.result a.slot a.parts.now c.new-job.result c.slots_of-slots.ensures.slots c.new-job.ensures c.in-Ok.ensures.unrefused)
+          c.in-Some.is (unrefused (H a.handle) actor a.outward a.store.now c.slots_of-slots.result a.slot a.parts.now c.new-job.result c.slots_of-slots.ensures c.new-job.ensures c.in-Ok.ensures.unrefused)
           c.requires.within found c.move_word-value.ensures;
     }
 

@@ -1,5 +1,6 @@
-use Rattle.std.proofs.Common.{◌≡◌, ℕ, ◌<◌, Bool, Some, None, sym, ◌∙◌, subst, arith}
-use Rattle.gup_core.specs.Machine.{MachineValue}
+use Rattle.std.proofs.Common.{◌≡◌, ℕ, ◌<◌, ◌++◌, Bool, List, Some, None, sym, ap, ◌∙◌, subst, arith}
+use Rattle.gup_plain.specs.Note.{NoteValue}
+use Rattle.gup_core.specs.Machine.{MachineValue, Shows, TakesTurn}
 use Rattle.gup_script.specs.Valid.{IsScript}
 use Rattle.gup_core.specs.Waking.{woken_of}
 use Rattle.gup_core.specs.Going.{Advances, CanGo, WaitsFor, HasFinished, MayWakeOf}
@@ -21,6 +22,18 @@ returns-in-Moved-clause-next c r shown asleep =
     let found = subst (λ (k : ℕ). awake_from (is_awake l.awake) k k c.args.pointer ≡ Some a) inv.0 (sym c.in-Some.ensures.next) in
     let below = subst (λ (k : ℕ). a < k) inv.0 c.in-Some.ensures.below in
     asked_goes m.script r n c.args.pointer a (is_awake l.awake) c.requires.all (inv.1 r shown asleep) (c.requires.there (omega (arith, below))) found goes
+
+pub returns-in-Moved-clause-turn : goal.returns-in-Moved-clause-turn
+returns-in-Moved-clause-turn c r shown =
+    let a = c.in-Some.actor in
+    let l = c.loop-actor in
+    let stays = l.invariant.2 in
+    let adv = subst (λ x. Advances l.machine c.advance.new.self l.journal c.advance.new.journal a x) c.in-Moved.is c.in_ok-woken.ensures.advances in
+    let took = adv.1 r (subst (λ (m : MachineValue). Shows m r) (sym stays.machine) shown) in (
+      took.0,
+      took.1 ∙ ap (λ (notes : List NoteValue). notes ++ took.0) stays.notes,
+      subst (λ (m : MachineValue). TakesTurn m c.advance.new.self a r took.0) stays.machine took.2,
+    )
 
 pub returns-in-Moved-clause-asleep : goal.returns-in-Moved-clause-asleep
 returns-in-Moved-clause-asleep c r shown asleep =

@@ -1,11 +1,12 @@
 //! The image of all parts.
 ghost use Rattle.std.specs.Prelude.{◌≡◌, ◌≤◌, length, IfOk};
+ghost use Rattle.gup_frames.specs.Frames.{frames_of, frames_in};
 ghost use Rattle.gup_op_base.specs.Tidy.{AreNumbered};
 ghost use Rattle.gup_op_waits.specs.Parts.{EachSpace};
 ghost use Rattle.gup_image.specs.Image.{image_of, HasNoMore};
 
 use crate::actors::{push_seats, push_stores, push_taken};
-use crate::fact::Fact;
+use crate::fact::{Fact, KeptFact, put};
 use crate::frames::push_frames;
 use crate::handles::{push_handles, push_slots};
 use crate::processes::push_processes;
@@ -22,7 +23,8 @@ pub fn image(
     parts: &Parts,
     mirrors: &Mirrors,
     seats: &Vec<Seat>,
-) -> Result<Vec<Fact>, NoMemory>
+) -> Result<Vec<KeptFact>, NoMemory>
+    requires frames { frames_in (frames_of parts.now.frames) ≤ 1024 }
     requires processes { length parts.now.spaces.items ≤ 16 }
     requires births { length parts.now.births.items ≡ length parts.now.spaces.items }
     requires taken { length parts.now.taken.items ≤ 81 }
@@ -32,10 +34,13 @@ pub fn image(
     ensures { IfOk result (λ facts. facts.items ≡ image_of parts.now mirrors.now seats.now.items) }
 {
     let mut facts = Vec::new(alloc);
-    facts.push(Fact::Zones {
-        movable: parts.frames.movable(),
-        normal: parts.frames.normal(),
-    })?;
+    put(
+        &mut facts,
+        Fact::Zones {
+            movable: parts.frames.movable(),
+            normal: parts.frames.normal(),
+        },
+    )?;
     push_frames(&mut facts, &parts.frames)?;
     push_processes(&mut facts, parts)?;
     push_handles(&mut facts, &parts.handles)?;

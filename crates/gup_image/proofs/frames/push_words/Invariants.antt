@@ -1,0 +1,8 @@
+use Rattle.std.proofs.Common.{◌≡◌, ◌++◌}
+use Rattle.gup_frames.specs.Frames.{frames_of}
+use Rattle.gup_image.specs.Gathered.{gathered}
+use Rattle.gup_image.specs.Image.{words_of_frame}
+use Rattle.gup_image.proofs.frames.push_words.Given as goal
+
+abbrev pub invariant-loop-w : goal.invariant-loop-w
+invariant-loop-w l = l.facts.items ≡ l.initial.facts.items ++ gathered (words_of_frame (frames_of l.frames) l.frame) l.w
