@@ -2,8 +2,17 @@
 use Rattle.std.proofs.Common.{◌≡◌, ℕ, ◌==◌, Bool, true, false, ◌&&◌, List, [], ◌∷◌, Option, Some, None, refl, sym, ap, ◌∙◌, arith, rules}
 use Rattle.std.proofs.lemmas.Bool.Decides.{nat_tests}
 use lib.Pointwise.{pointwise}
+use mathlib.Core.Bool.{beq}
 use Rattle.std.specs.Option.{option_eq}
 use Rattle.gup_image.specs.declared.fact.Fact.{Fact}
+use Rattle.gup_image.specs.declared.fact.Fact.TheVariants as facts
+use Rattle.gup_op_base.specs.declared.jobs.JobPlace.{JobPlace}
+use Rattle.gup_op_base.specs.declared.jobs.JobPlace.TheVariants as places
+use Rattle.gup_op_base.specs.declared.jobs.WalkPlace.{WalkPlace}
+use Rattle.gup_op_base.specs.contracts.jobs.WalkPlacePartialEq.TheImpl as walk_eq
+use Rattle.gup_op_base.specs.contracts.jobs.JobPlacePartialEq.TheImpl as place_eq
+use Rattle.gup_op_waits.specs.declared.births.Birth.{Birth}
+use Rattle.gup_op_waits.specs.contracts.births.BirthPartialEq.TheImpl as birth_eq
 use Rattle.gup_image.specs.contracts.fact.FactPartialEq.TheImpl as fact_eq
 use Rattle.gup_plain.specs.declared.note.Waiting.{Waiting}
 use Rattle.gup_plain.specs.contracts.note.WaitingPartialEq.TheImpl as waiting_eq
@@ -17,6 +26,15 @@ both true true h = (refl, refl)
 both true false h = absurd (cc)
 both false c h = absurd (cc)
 
+alike : (n k : ℕ) → (n == k) ≡ true → n ≡ k
+alike n k h = grind (arith, nat_tests)
+
+flag_same : (b c : Bool) → beq b c ≡ true → b ≡ c
+flag_same true true h = refl
+flag_same true false h = absurd (cc)
+flag_same false true h = absurd (cc)
+flag_same false false h = refl
+
 lists_same : {A : Type 0} (E : A → A → Bool) → ((x y : A) → E x y ≡ true → x ≡ y) → (xs ys : List A) → pointwise E xs ys ≡ true → xs ≡ ys
 lists_same E same [] [] h = refl
 lists_same E same [] (y ∷ ys) h = absurd (cc)
@@ -25,14 +43,96 @@ lists_same E same (x ∷ xs) (y ∷ ys) h =
     let w = both (E x y) (pointwise E xs ys) h in
     ap (λ z. z ∷ xs) (same x y w.0) ∙ ap (λ zs. y ∷ zs) (lists_same E same xs ys w.1)
 
+birth_same : (a b : Birth) → birth_eq.eq-value.it a b ≡ true → a ≡ b
+birth_same a b h = search rules
+
+walk_same : (a b : WalkPlace) → walk_eq.eq-value.it a b ≡ true → a ≡ b
+walk_same a b h = search rules
+
+place_same : (a b : JobPlace) → place_eq.eq-value.it a b ≡ true → a ≡ b
+place_same places.Unbegun b h = search rules
+place_same (places.From page) b h = search rules
+place_same (places.At page) b h = search rules
+place_same (places.Wanting page) b h = search rules
+place_same (places.Copying word to page) b h = search rules
+place_same (places.Cleared entry page) b h = search rules
+place_same (places.Single entry page) b h = search rules
+place_same (places.Shared entry page count) b h = search rules
+place_same (places.Walking place page sequence) b h = search (rules, walk_same)
+
+holder_same : (a b : Option ℕ) → option_eq (λ (x y : ℕ). x == y) a b ≡ true → a ≡ b
+holder_same a b h = search rules
+
+stands_same : (a f n : ℕ) (j : JobPlace) (a' f' n' : ℕ) (j' : JobPlace) → fact_eq.eq-value.it (facts.Stands a f n j) (facts.Stands a' f' n' j') ≡ true → facts.Stands a f n j ≡ facts.Stands a' f' n' j'
+stands_same a f n j a' f' n' j' h =
+    let w = both (a == a') _ h in
+    let x = both (f == f') _ w.1 in
+    let y = both (n == n') _ x.1 in
+    let one : a ≡ a' = alike a a' w.0 in
+    let two : f ≡ f' = alike f f' x.0 in
+    let three : n ≡ n' = alike n n' y.0 in
+    let four : j ≡ j' = place_same j j' y.1 in
+    cc
+
+process_same : (p : ℕ) (birth : Birth) (had : Bool) (s t : Option ℕ) (n q : ℕ) (p' : ℕ) (birth' : Birth) (had' : Bool) (s' t' : Option ℕ) (n' q' : ℕ) → fact_eq.eq-value.it (facts.Process p birth had s t n q) (facts.Process p' birth' had' s' t' n' q') ≡ true → facts.Process p birth had s t n q ≡ facts.Process p' birth' had' s' t' n' q'
+process_same p birth had s t n q p' birth' had' s' t' n' q' h =
+    let w = both (p == p') _ h in
+    let x = both (birth_eq.eq-value.it birth birth') _ w.1 in
+    let y = both (beq had had') _ x.1 in
+    let z = both (option_eq (λ (i j : ℕ). i == j) s s') _ y.1 in
+    let v = both (option_eq (λ (i j : ℕ). i == j) t t') _ z.1 in
+    let r = both (n == n') _ v.1 in
+    let one : p ≡ p' = alike p p' w.0 in
+    let two : birth ≡ birth' = birth_same birth birth' x.0 in
+    let three : had ≡ had' = flag_same had had' y.0 in
+    let four : s ≡ s' = holder_same s s' z.0 in
+    let five : t ≡ t' = holder_same t t' v.0 in
+    let six : n ≡ n' = alike n n' r.0 in
+    let seven : q ≡ q' = alike q q' r.1 in
+    cc
+
+-- One variant at a time: `search` gives up at all of them at once.
 fact_same : (a b : Fact) → fact_eq.eq-value.it a b ≡ true → a ≡ b
-fact_same a b h = search rules
+fact_same (facts.Zones movable normal) b h = search rules
+fact_same (facts.Frame mark frame count) b h = search rules
+fact_same (facts.Word frame word value) b h = search rules
+fact_same (facts.Process proc birth has_pinned structure table pages sequence) (facts.Zones k l) h = absurd (cc)
+fact_same (facts.Process proc birth has_pinned structure table pages sequence) (facts.Frame k l o) h = absurd (cc)
+fact_same (facts.Process proc birth has_pinned structure table pages sequence) (facts.Word k l o) h = absurd (cc)
+fact_same (facts.Process proc birth has_pinned structure table pages sequence) (facts.Process proc' birth' has_pinned' structure' table' pages' sequence') h = process_same proc birth has_pinned structure table pages sequence proc' birth' has_pinned' structure' table' pages' sequence' h
+fact_same (facts.Process proc birth has_pinned structure table pages sequence) (facts.Page k l o u) h = absurd (cc)
+fact_same (facts.Process proc birth has_pinned structure table pages sequence) (facts.Pin k l o u) h = absurd (cc)
+fact_same (facts.Process proc birth has_pinned structure table pages sequence) (facts.Pinned k l o) h = absurd (cc)
+fact_same (facts.Process proc birth has_pinned structure table pages sequence) (facts.Got k l o) h = absurd (cc)
+fact_same (facts.Process proc birth has_pinned structure table pages sequence) (facts.Gone k) h = absurd (cc)
+fact_same (facts.Process proc birth has_pinned structure table pages sequence) (facts.Taken k l o) h = absurd (cc)
+fact_same (facts.Process proc birth has_pinned structure table pages sequence) (facts.Stored k l o) h = absurd (cc)
+fact_same (facts.Process proc birth has_pinned structure table pages sequence) (facts.Filled k l o u) h = absurd (cc)
+fact_same (facts.Process proc birth has_pinned structure table pages sequence) (facts.Stands actor' far' answered' job') h = absurd (cc)
+fact_same (facts.Page proc rights entry page) b h = search rules
+fact_same (facts.Pin actor given write handle) b h = search rules
+fact_same (facts.Pinned place frame handle) b h = search rules
+fact_same (facts.Got actor frame handle) b h = search rules
+fact_same (facts.Gone handle) b h = search rules
+fact_same (facts.Taken actor place frame) b h = search rules
+fact_same (facts.Stored actor slot value) b h = search rules
+fact_same (facts.Filled mirror proc frame page) b h = search rules
+fact_same (facts.Stands actor far answered job) (facts.Zones k l) h = absurd (cc)
+fact_same (facts.Stands actor far answered job) (facts.Frame k l o) h = absurd (cc)
+fact_same (facts.Stands actor far answered job) (facts.Word k l o) h = absurd (cc)
+fact_same (facts.Stands actor far answered job) (facts.Process proc' birth' has_pinned' structure' table' pages' sequence') h = absurd (cc)
+fact_same (facts.Stands actor far answered job) (facts.Page k l o u) h = absurd (cc)
+fact_same (facts.Stands actor far answered job) (facts.Pin k l o u) h = absurd (cc)
+fact_same (facts.Stands actor far answered job) (facts.Pinned k l o) h = absurd (cc)
+fact_same (facts.Stands actor far answered job) (facts.Got k l o) h = absurd (cc)
+fact_same (facts.Stands actor far answered job) (facts.Gone k) h = absurd (cc)
+fact_same (facts.Stands actor far answered job) (facts.Taken k l o) h = absurd (cc)
+fact_same (facts.Stands actor far answered job) (facts.Stored k l o) h = absurd (cc)
+fact_same (facts.Stands actor far answered job) (facts.Filled k l o u) h = absurd (cc)
+fact_same (facts.Stands actor far answered job) (facts.Stands actor' far' answered' job') h = stands_same actor far answered job actor' far' answered' job' h
 
 told_same : (a b : Told) → told_eq.eq-value.it a b ≡ true → a ≡ b
 told_same a b h = search rules
-
-alike : (n k : ℕ) → (n == k) ≡ true → n ≡ k
-alike n k h = grind (arith, nat_tests)
 
 abbrev the_tell : ℕ → Told → Tell
 the_tell name told = record { name = name; told = told }

@@ -4,14 +4,14 @@ ghost use Rattle.gup_search.specs.Graph.{IsBack, Adds};
 
 use crate::told::Tell;
 use gup_base::{ActorNo, NoMemory};
-use gup_image::Fact;
+use gup_image::KeptFact;
 use indexmap::IndexSet;
 use std::alloc::Global;
 
 /// The image of a machine, and what the named operations have told on the way to it.
 #[derive(Debug, PartialEq, Eq, Hash, Drop)]
 pub(crate) struct State {
-    pub(crate) facts: Vec<Fact>,
+    pub(crate) facts: Vec<KeptFact>,
     pub(crate) tells: Vec<Tell>,
 }
 
