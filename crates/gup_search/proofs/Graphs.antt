@@ -82,14 +82,14 @@ true_or_false b one two = cc
 pub grows_added : (limit : ℕ) (old new : Graph) (state : State) (step : Option Step) → Adds limit old new state step → Grows old new
 grows_added limit old new state step adds =
     elim adds [
-        inl there ↦ grows_by old new there.same (λ none. sym there.left ∙ none)
+      | inl there ↦ grows_by old new there.same (λ none. sym there.left ∙ none)
       | inr more ↦ elim more [
-            inl pushed ↦ record {
-              states = λ j s at. subst (λ (ss : List State). slice_get ss j ≡ Some s) (sym pushed.states) (at_longer old.states.keys state j s at);
-              left = λ none. sym pushed.left ∙ none;
-            }
-          | inr out ↦ grows_by old new out.same (λ none. absurd (true_or_false new.left_out out.left none))
-        ]
+        | inl pushed ↦ record {
+          states = λ j s at. subst (λ (ss : List State). slice_get ss j ≡ Some s) (sym pushed.states) (at_longer old.states.keys state j s at);
+          left = λ none. sym pushed.left ∙ none;
+        }
+        | inr out ↦ grows_by old new out.same (λ none. absurd (true_or_false new.left_out out.left none))
+      ]
     ]
 
 pub covered_on : (script : ScriptValue) (named : List Named) (order : List ℕ) (old new : Graph) → Grows old new → IsCovered script named order old.states.keys → IsCovered script named order new.states.keys
@@ -104,11 +104,11 @@ has_same old new facts tells same h = (h.0, h.1, subst (λ (ss : List State). sl
 pub has_added : (limit : ℕ) (old new : Graph) (state : State) (step : Option Step) → new.left_out ≡ false → Adds limit old new state step → HasState new.states.keys state.facts.items state.tells.items
 has_added limit old new state step none adds =
     elim adds [
-        inl there ↦ has_same old new state.facts.items state.tells.items there.same there.found
+      | inl there ↦ has_same old new state.facts.items state.tells.items there.same there.found
       | inr more ↦ elim more [
-            inl pushed ↦ (length old.states.keys, state, subst (λ (ss : List State). slice_get ss (length old.states.keys) ≡ Some state) (sym pushed.states) (at_end old.states.keys state), refl, refl)
-          | inr out ↦ absurd (true_or_false new.left_out out.left none)
-        ]
+        | inl pushed ↦ (length old.states.keys, state, subst (λ (ss : List State). slice_get ss (length old.states.keys) ≡ Some state) (sym pushed.states) (at_end old.states.keys state), refl, refl)
+        | inr out ↦ absurd (true_or_false new.left_out out.left none)
+      ]
     ]
 
 -- an order that it covers is covered
@@ -182,21 +182,21 @@ reached_pushed script behind named limit old new state step pushed here h =
           subst (λ (ss : List (Option Step)). IsReached script behind named ss i other) (sym pushed.steps)
           (reached_at i other (at_either old.states.keys state i other (subst (λ (ss : List State). slice_get ss i ≡ Some other) pushed.states at)));
     }
-    where
-      reached_at : (i : ℕ) (other : State) → (slice_get old.states.keys i ≡ Some other) ⊎ ((i ≡ length old.states.keys) × (other ≡ state)) → IsReached script behind named (old.steps.items ++ step ∷ []) i other
-      reached_at i other (inl before) = let r = h.reached i other before in (r.0, back_longer old.steps.items step i r.0 r.1, r.2)
-      reached_at i other (inr last) =
-          subst (λ (k : ℕ). IsReached script behind named (old.steps.items ++ step ∷ []) k other) (h.steps ∙ sym last.0)
-          (subst (λ (s : State). IsReached script behind named (old.steps.items ++ step ∷ []) (length old.steps.items) s) (sym last.1) here)
+  where
+    reached_at : (i : ℕ) (other : State) → (slice_get old.states.keys i ≡ Some other) ⊎ ((i ≡ length old.states.keys) × (other ≡ state)) → IsReached script behind named (old.steps.items ++ step ∷ []) i other
+    reached_at i other (inl before) = let r = h.reached i other before in (r.0, back_longer old.steps.items step i r.0 r.1, r.2)
+    reached_at i other (inr last) =
+        subst (λ (k : ℕ). IsReached script behind named (old.steps.items ++ step ∷ []) k other) (h.steps ∙ sym last.0)
+        (subst (λ (s : State). IsReached script behind named (old.steps.items ++ step ∷ []) (length old.steps.items) s) (sym last.1) here)
 
 pub reached_added : (script : ScriptValue) (behind : Bool) (named : List Named) (limit : ℕ) (old new : Graph) (state : State) (step : Option Step) → Adds limit old new state step → IsReached script behind named (old.steps.items ++ step ∷ []) (length old.steps.items) state → AreReached script behind named limit old → AreReached script behind named limit new
 reached_added script behind named limit old new state step adds here h =
     elim adds [
-        inl there ↦ reached_by script behind named limit old new there.same (λ left. h.full (sym there.left ∙ left)) h
+      | inl there ↦ reached_by script behind named limit old new there.same (λ left. h.full (sym there.left ∙ left)) h
       | inr more ↦ elim more [
-            inl pushed ↦ reached_pushed script behind named limit old new state step pushed here h
-          | inr out ↦ reached_by script behind named limit old new out.same (λ left. just_full (length old.states.keys) limit out.full h.few) h
-        ]
+        | inl pushed ↦ reached_pushed script behind named limit old new state step pushed here h
+        | inr out ↦ reached_by script behind named limit old new out.same (λ left. just_full (length old.states.keys) limit out.full h.few) h
+      ]
     ]
 
 -- ---- the beginning
@@ -266,9 +266,9 @@ stepped script behind named limit old new i a m n parent state tells exact graph
           λ none k b other among there.
           leads_as script named new parent other a b (same_at old.states.keys i parent other at there) (one_only a b k among)
           (
-            λ order covers.
-            covered_added script named (order ++ a ∷ []) new.states.keys state.facts.items state.tells.items (has_added limit old new state step none adds)
-            (covers_on script named order m n a parent.facts.items state.facts.items parent.tells.items state.tells.items exact is.same image kept taken next covers)
+          λ order covers.
+          covered_added script named (order ++ a ∷ []) new.states.keys state.facts.items state.tells.items (has_added limit old new state step none adds)
+          (covers_on script named order m n a parent.facts.items state.facts.items parent.tells.items state.tells.items exact is.same image kept taken next covers)
           );
     }
 
@@ -289,8 +289,8 @@ steps_more script behind named limit i f g h xs ys split one two =
       leads =
           λ none k a state among there.
           elim (split k a among) [
-            inl w ↦ leads_grown script named g h state a two.grows (one.leads (two.grows.left none) w.0 a state w.1 there)
-          | inr w ↦ two.leads none w.0 a state w.1 (one.grows.states i state there)
+            | inl w ↦ leads_grown script named g h state a two.grows (one.leads (two.grows.left none) w.0 a state w.1 there)
+            | inr w ↦ two.leads none w.0 a state w.1 (one.grows.states i state there)
           ];
     }
 

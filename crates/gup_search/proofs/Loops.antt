@@ -91,16 +91,18 @@ ready_more m ready n can h =
       can = λ k a there r shown. can_at k a r shown (at_either ready n k a there);
       all = λ a r below shown able. all_at a r shown able (below_or_at a n below);
     }
-    where
-      there_at : (k a : ℕ) → (slice_get ready k ≡ Some a) ⊎ ((k ≡ length ready) × (a ≡ n)) → a < n + 1
-      there_at k a (inl before) = below_more a n (h.there k a before)
-      there_at k a (inr last) = at_most a n last.1
-      can_at : (k a : ℕ) (r : RunState) → Shows m r → (slice_get ready k ≡ Some a) ⊎ ((k ≡ length ready) × (a ≡ n)) → can_go m.script r a ≡ true
-      can_at k a r shown (inl before) = h.can k a before r shown
-      can_at k a r shown (inr last) = ap (λ (b : ℕ). can_go m.script r b) last.1 ∙ sym (can r shown)
-      all_at : (a : ℕ) (r : RunState) → Shows m r → can_go m.script r a ≡ true → (a < n) ⊎ (a ≡ n) → (k : ℕ) × (slice_get (ready ++ n ∷ []) k ≡ Some a)
-      all_at a r shown able (inl below) = let w = h.all a r below shown able in (w.0, at_longer ready n w.0 a w.1)
-      all_at a r shown able (inr is) = (length ready, at_end ready n ∙ ap (λ (b : ℕ). Some b) (sym is))
+  where
+    there_at : (k a : ℕ) → (slice_get ready k ≡ Some a) ⊎ ((k ≡ length ready) × (a ≡ n)) → a < n + 1
+    there_at k a (inl before) = below_more a n (h.there k a before)
+    there_at k a (inr last) = at_most a n last.1
+
+    can_at : (k a : ℕ) (r : RunState) → Shows m r → (slice_get ready k ≡ Some a) ⊎ ((k ≡ length ready) × (a ≡ n)) → can_go m.script r a ≡ true
+    can_at k a r shown (inl before) = h.can k a before r shown
+    can_at k a r shown (inr last) = ap (λ (b : ℕ). can_go m.script r b) last.1 ∙ sym (can r shown)
+
+    all_at : (a : ℕ) (r : RunState) → Shows m r → can_go m.script r a ≡ true → (a < n) ⊎ (a ≡ n) → (k : ℕ) × (slice_get (ready ++ n ∷ []) k ≡ Some a)
+    all_at a r shown able (inl below) = let w = h.all a r below shown able in (w.0, at_longer ready n w.0 a w.1)
+    all_at a r shown able (inr is) = (length ready, at_end ready n ∙ ap (λ (b : ℕ). Some b) (sym is))
 
 true_or_false : (b : Bool) → b ≡ true → false ≡ b → ⊥
 true_or_false b one two = cc
@@ -113,10 +115,10 @@ ready_same m ready n cannot h =
       can = h.can;
       all = λ a r below shown able. all_at a r shown able (below_or_at a n below);
     }
-    where
-      all_at : (a : ℕ) (r : RunState) → Shows m r → can_go m.script r a ≡ true → (a < n) ⊎ (a ≡ n) → (k : ℕ) × (slice_get ready k ≡ Some a)
-      all_at a r shown able (inl below) = h.all a r below shown able
-      all_at a r shown able (inr is) = absurd (true_or_false (can_go m.script r n) (ap (λ (b : ℕ). can_go m.script r b) (sym is) ∙ able) (cannot r shown))
+  where
+    all_at : (a : ℕ) (r : RunState) → Shows m r → can_go m.script r a ≡ true → (a < n) ⊎ (a ≡ n) → (k : ℕ) × (slice_get ready k ≡ Some a)
+    all_at a r shown able (inl below) = h.all a r below shown able
+    all_at a r shown able (inr is) = absurd (true_or_false (can_go m.script r n) (ap (λ (b : ℕ). can_go m.script r b) (sym is) ∙ able) (cannot r shown))
 
 pub ready_all : (m : MachineValue) (ready : List ℕ) (n : ℕ) → n ≡ length m.script.actors → AreReadyTo m ready n → AreReady m ready
 ready_all m ready n is h =
@@ -145,13 +147,13 @@ waits_more m waits n waiting is h =
       many = length-append waits (waiting ∷ []) ∙ ap (λ (k : ℕ). k + 1) h.many;
       each = λ r a shown below. each_at r a shown (below_or_at a n below);
     }
-    where
-      each_at : (r : RunState) (a : ℕ) → Shows m r → (a < n) ⊎ (a ≡ n) → slice_get (waits ++ waiting ∷ []) a ≡ Some (waiting_in m.script r a)
-      each_at r a shown (inl below) = at_longer waits waiting a (waiting_in m.script r a) (h.each r a shown below)
-      each_at r a shown (inr at) =
-          ap (λ (k : ℕ). slice_get (waits ++ waiting ∷ []) k) (at ∙ sym h.many)
-          ∙ at_end waits waiting
-          ∙ ap (λ (w : Option Waiting). Some w) (is r shown ∙ ap (λ (k : ℕ). waiting_in m.script r k) (sym at))
+  where
+    each_at : (r : RunState) (a : ℕ) → Shows m r → (a < n) ⊎ (a ≡ n) → slice_get (waits ++ waiting ∷ []) a ≡ Some (waiting_in m.script r a)
+    each_at r a shown (inl below) = at_longer waits waiting a (waiting_in m.script r a) (h.each r a shown below)
+    each_at r a shown (inr at) =
+        ap (λ (k : ℕ). slice_get (waits ++ waiting ∷ []) k) (at ∙ sym h.many)
+        ∙ at_end waits waiting
+        ∙ ap (λ (w : Option Waiting). Some w) (is r shown ∙ ap (λ (k : ℕ). waiting_in m.script r k) (sym at))
 
 pub waits_all : (m : MachineValue) (waits : List (Option Waiting)) (n : ℕ) → n ≡ length m.script.actors → AreWaitsTo m waits n → AreWaits m waits
 waits_all m waits n is h r a shown below = h.each r a shown (subst (λ (j : ℕ). a < j) (sym is) below)
@@ -220,26 +222,26 @@ TellsTo named old new note i =
 pub tells_first : (named : List Named) (tells : List Tell) (note : NoteValue) → TellsTo named tells tells note 0
 tells_first named tells note k name there =
     sym (append-nil (tells_of tells k)) ∙ ap (λ (b : Bool). tells_of tells k ++ (if b then told_in name (note ∷ []) else [])) (sym (never k))
-    where
-      never : (k : ℕ) → nat_lt k 0 ≡ false
-      never k = grind (arith, nat_tests)
+  where
+    never : (k : ℕ) → nat_lt k 0 ≡ false
+    never k = grind (arith, nat_tests)
 
 pub tells_all : (named : List Named) (old new : List Tell) (note : NoteValue) (i : ℕ) → length named ≤ i → TellsTo named old new note i → Tells named old new (note ∷ [])
 tells_all named old new note i most h k name there =
     h k name there ∙ ap (λ (b : Bool). tells_of old k ++ (if b then told_in name (note ∷ []) else [])) (always (slice_get_within named k name there))
-    where
-      always : k < length named → nat_lt k i ≡ true
-      always below = grind (arith, nat_tests)
+  where
+    always : k < length named → nat_lt k i ≡ true
+    always below = grind (arith, nat_tests)
 
 -- a note that tells nothing
 pub tells_nothing : (named : List Named) (tells : List Tell) (note : NoteValue) → told_of note.what ≡ None → Tells named tells tells (note ∷ [])
 tells_nothing named tells note none k name there =
     sym (append-nil (tells_of tells k))
     ∙ ap (λ (ts : List Told). tells_of tells k ++ ts) (sym (ap (λ (o : Option Told). cons_option (if is_of name note then o else None) []) none ∙ nothing (is_of name note)))
-    where
-      nothing : (b : Bool) → cons_option {X = Told} (if b then None else None) [] ≡ []
-      nothing true = refl
-      nothing false = refl
+  where
+    nothing : (b : Bool) → cons_option {X = Told} (if b then None else None) [] ≡ []
+    nothing true = refl
+    nothing false = refl
 
 told_if : (b : Bool) (told : Told) → cons_option (if b then Some told else None) [] ≡ (if b then told ∷ [] else [])
 told_if true told = refl
@@ -270,7 +272,7 @@ tells_step named old mid new note told i operation is at hit puts h k name there
     let mids : List Told = tells_of mid k in
     let t : List Told = told_in name (note ∷ []) in
     elim (order_of k i) [
-        inl below ↦
+      | inl below ↦
           let w = test_before k i below in
           puts k
           ∙ ap (λ (b : Bool). mids ++ (if b then told ∷ [] else [])) w.2
@@ -278,24 +280,24 @@ tells_step named old mid new note told i operation is at hit puts h k name there
           ∙ h k name there
           ∙ ap (λ (b : Bool). olds ++ (if b then t else [])) (w.1 ∙ sym w.0)
       | inr more ↦ elim more [
-            inl here ↦
-              let w = test_at k i here in
-              let one : t ≡ told ∷ [] =
-              told_by name note told is
-              ∙ ap (λ (b : Bool). if b then told ∷ [] else []) (ap (λ (n : Named). is_of n note) (same_name named k i name operation here there at) ∙ hit) in
-              puts k
-              ∙ ap (λ (b : Bool). mids ++ (if b then told ∷ [] else [])) w.2
-              ∙ ap (λ (ts : List Told). ts ++ told ∷ []) (h k name there ∙ ap (λ (b : Bool). olds ++ (if b then t else [])) w.1 ∙ append-nil olds)
-              ∙ ap (λ (ts : List Told). olds ++ ts) (sym one)
-              ∙ ap (λ (b : Bool). olds ++ (if b then t else [])) (sym w.0)
-          | inr above ↦
-              let w = test_after k i above in
-              puts k
-              ∙ ap (λ (b : Bool). mids ++ (if b then told ∷ [] else [])) w.2
-              ∙ append-nil mids
-              ∙ h k name there
-              ∙ ap (λ (b : Bool). olds ++ (if b then t else [])) (w.1 ∙ sym w.0)
-        ]
+        | inl here ↦
+            let w = test_at k i here in
+            let one : t ≡ told ∷ [] =
+            told_by name note told is
+            ∙ ap (λ (b : Bool). if b then told ∷ [] else []) (ap (λ (n : Named). is_of n note) (same_name named k i name operation here there at) ∙ hit) in
+            puts k
+            ∙ ap (λ (b : Bool). mids ++ (if b then told ∷ [] else [])) w.2
+            ∙ ap (λ (ts : List Told). ts ++ told ∷ []) (h k name there ∙ ap (λ (b : Bool). olds ++ (if b then t else [])) w.1 ∙ append-nil olds)
+            ∙ ap (λ (ts : List Told). olds ++ ts) (sym one)
+            ∙ ap (λ (b : Bool). olds ++ (if b then t else [])) (sym w.0)
+        | inr above ↦
+            let w = test_after k i above in
+            puts k
+            ∙ ap (λ (b : Bool). mids ++ (if b then told ∷ [] else [])) w.2
+            ∙ append-nil mids
+            ∙ h k name there
+            ∙ ap (λ (b : Bool). olds ++ (if b then t else [])) (w.1 ∙ sym w.0)
+      ]
     ]
 
 -- the note is none of the operation at this place
@@ -304,17 +306,17 @@ tells_skip named old new note told i operation is at miss h k name there =
     let olds : List Told = tells_of old k in
     let t : List Told = told_in name (note ∷ []) in
     elim (order_of k i) [
-        inl below ↦ let w = test_before k i below in h k name there ∙ ap (λ (b : Bool). olds ++ (if b then t else [])) (w.1 ∙ sym w.0)
+      | inl below ↦ let w = test_before k i below in h k name there ∙ ap (λ (b : Bool). olds ++ (if b then t else [])) (w.1 ∙ sym w.0)
       | inr more ↦ elim more [
-            inl here ↦
-              let w = test_at k i here in
-              let nothing : t ≡ [] =
-              told_by name note told is
-              ∙ ap (λ (b : Bool). if b then told ∷ [] else []) (ap (λ (n : Named). is_of n note) (same_name named k i name operation here there at) ∙ miss) in
-              h k name there
-              ∙ ap (λ (b : Bool). olds ++ (if b then t else [])) w.1
-              ∙ ap (λ (ts : List Told). olds ++ ts) (sym nothing)
-              ∙ ap (λ (b : Bool). olds ++ (if b then t else [])) (sym w.0)
-          | inr above ↦ let w = test_after k i above in h k name there ∙ ap (λ (b : Bool). olds ++ (if b then t else [])) (w.1 ∙ sym w.0)
-        ]
+        | inl here ↦
+            let w = test_at k i here in
+            let nothing : t ≡ [] =
+            told_by name note told is
+            ∙ ap (λ (b : Bool). if b then told ∷ [] else []) (ap (λ (n : Named). is_of n note) (same_name named k i name operation here there at) ∙ miss) in
+            h k name there
+            ∙ ap (λ (b : Bool). olds ++ (if b then t else [])) w.1
+            ∙ ap (λ (ts : List Told). olds ++ ts) (sym nothing)
+            ∙ ap (λ (b : Bool). olds ++ (if b then t else [])) (sym w.0)
+        | inr above ↦ let w = test_after k i above in h k name there ∙ ap (λ (b : Bool). olds ++ (if b then t else [])) (w.1 ∙ sym w.0)
+      ]
     ]

@@ -36,8 +36,8 @@ pub over_if_none : (script : ScriptValue) (m : MachineValue) (r : RunState) → 
 over_if_none script m r same ready shown a below =
     subst (λ (s : ScriptValue). can_go s r a ≡ false) same
     (
-      false_unless (can_go m.script r a)
-      (λ can. let w = ready.all a r (subst (λ (s : ScriptValue). a < length s.actors) (sym same) below) shown can in nothing_at w.0 a w.1)
+    false_unless (can_go m.script r a)
+    (λ can. let w = ready.all a r (subst (λ (s : ScriptValue). a < length s.actors) (sym same) below) shown can in nothing_at w.0 a w.1)
     )
 
 -- the outcome of an order
@@ -70,21 +70,22 @@ happen_added script behind named m state old new outcome exact same image ready 
     let here : IsOrder script behind outcome.path.items × IsOutcome script named order outcome =
     (record { goes = led.goes; over = over }, outcome_of script named order m state.tells.items outcome.waits.items outcome stands are copied refl) in
     elim adds.items [
-        inl stay ↦ subst (λ (os : List Outcome). AreOfOrders script behind named os) (sym stay) h
+      | inl stay ↦ subst (λ (os : List Outcome). AreOfOrders script behind named os) (sym stay) h
       | inr more ↦ subst (λ (os : List Outcome). AreOfOrders script behind named os) (sym more) (happen_pushed script behind named old outcome here h)
     ]
-    where
-      happen_at : (script : ScriptValue) (behind : Bool) (named : List Named) (old : List Outcome) (outcome : Outcome) → IsOrder script behind outcome.path.items × IsOutcome script named (setup script behind ++ outcome.path.items) outcome → AreOfOrders script behind named old → (k : ℕ) (o : Outcome) → (slice_get old k ≡ Some o) ⊎ ((k ≡ length old) × (o ≡ outcome)) → IsOrder script behind o.path.items × IsOutcome script named (setup script behind ++ o.path.items) o
-      happen_at script behind named old outcome here h k o (inl before) = h k o before
-      happen_at script behind named old outcome here h k o (inr last) =
-          subst (λ (x : Outcome). IsOrder script behind x.path.items × IsOutcome script named (setup script behind ++ x.path.items) x) (sym last.1) here
-      happen_pushed : (script : ScriptValue) (behind : Bool) (named : List Named) (old : List Outcome) (outcome : Outcome) → IsOrder script behind outcome.path.items × IsOutcome script named (setup script behind ++ outcome.path.items) outcome → AreOfOrders script behind named old → AreOfOrders script behind named (old ++ outcome ∷ [])
-      happen_pushed script behind named old outcome here h k o there = happen_at script behind named old outcome here h k o (at_either old outcome k o there)
+  where
+    happen_at : (script : ScriptValue) (behind : Bool) (named : List Named) (old : List Outcome) (outcome : Outcome) → IsOrder script behind outcome.path.items × IsOutcome script named (setup script behind ++ outcome.path.items) outcome → AreOfOrders script behind named old → (k : ℕ) (o : Outcome) → (slice_get old k ≡ Some o) ⊎ ((k ≡ length old) × (o ≡ outcome)) → IsOrder script behind o.path.items × IsOutcome script named (setup script behind ++ o.path.items) o
+    happen_at script behind named old outcome here h k o (inl before) = h k o before
+    happen_at script behind named old outcome here h k o (inr last) =
+        subst (λ (x : Outcome). IsOrder script behind x.path.items × IsOutcome script named (setup script behind ++ x.path.items) x) (sym last.1) here
+
+    happen_pushed : (script : ScriptValue) (behind : Bool) (named : List Named) (old : List Outcome) (outcome : Outcome) → IsOrder script behind outcome.path.items × IsOutcome script named (setup script behind ++ outcome.path.items) outcome → AreOfOrders script behind named old → AreOfOrders script behind named (old ++ outcome ∷ [])
+    happen_pushed script behind named old outcome here h k o there = happen_at script behind named old outcome here h k o (at_either old outcome k o there)
 
 pub keeps_added : (old new : List Outcome) (outcome : Outcome) → AddsOutcome old new outcome → Keeps old new
 keeps_added old new outcome adds k o there =
     elim adds.items [
-        inl stay ↦ subst (λ (os : List Outcome). slice_get os k ≡ Some o) (sym stay) there
+      | inl stay ↦ subst (λ (os : List Outcome). slice_get os k ≡ Some o) (sym stay) there
       | inr more ↦ subst (λ (os : List Outcome). slice_get os k ≡ Some o) (sym more) (at_longer old outcome k o there)
     ]
 
@@ -115,21 +116,22 @@ search_on script behind named limit old new before after i state at search graph
       over = one_further i (length new.states.keys) (slice_get_within new.states.keys i state (grows.states i state at));
       closed = λ none k other below there. closed_at none k other (below_or_at k i below) there;
     }
-    where
-      back_at : (k : ℕ) (other : State) → k < i → slice_get new.states.keys k ≡ Some other → slice_get old.states.keys k ≡ Some other
-      back_at k other below there = was_at (slice_get_cases old.states.keys k).1
-        where
-          was_at : ((x : State) × (k < length old.states.keys) × (slice_get old.states.keys k ≡ Some x) × (get_or old.states.keys k x ≡ x)) ⊎ ((length old.states.keys ≤ k) × (slice_get old.states.keys k ≡ None)) → slice_get old.states.keys k ≡ Some other
-          was_at (inl w) = w.2 ∙ ap (λ (s : State). Some s) (same_at new.states.keys k w.0 other (grows.states k w.0 w.2) there)
-          was_at (inr w) = absurd (past_it k i (length old.states.keys) below search.over w.0)
-      closed_at : new.left_out ≡ false → (k : ℕ) (other : State) → (k < i) ⊎ (k ≡ i) → slice_get new.states.keys k ≡ Some other → IsClosed script named new after.outcomes.items other
-      closed_at none k other (inl below) there =
-          closed_grown script named old new before.outcomes.items after.outcomes.items other grows keeps
-          (search.closed (grows.left none) k other below (back_at k other below there))
-      closed_at none k other (inr is) there =
-          subst (λ (s : State). IsClosed script named new after.outcomes.items s)
-          (same_at new.states.keys i state other (grows.states i state at) (subst (λ (j : ℕ). slice_get new.states.keys j ≡ Some other) is there))
-          (here none)
+  where
+    back_at : (k : ℕ) (other : State) → k < i → slice_get new.states.keys k ≡ Some other → slice_get old.states.keys k ≡ Some other
+    back_at k other below there = was_at (slice_get_cases old.states.keys k).1
+      where
+        was_at : ((x : State) × (k < length old.states.keys) × (slice_get old.states.keys k ≡ Some x) × (get_or old.states.keys k x ≡ x)) ⊎ ((length old.states.keys ≤ k) × (slice_get old.states.keys k ≡ None)) → slice_get old.states.keys k ≡ Some other
+        was_at (inl w) = w.2 ∙ ap (λ (s : State). Some s) (same_at new.states.keys k w.0 other (grows.states k w.0 w.2) there)
+        was_at (inr w) = absurd (past_it k i (length old.states.keys) below search.over w.0)
+
+    closed_at : new.left_out ≡ false → (k : ℕ) (other : State) → (k < i) ⊎ (k ≡ i) → slice_get new.states.keys k ≡ Some other → IsClosed script named new after.outcomes.items other
+    closed_at none k other (inl below) there =
+        closed_grown script named old new before.outcomes.items after.outcomes.items other grows keeps
+        (search.closed (grows.left none) k other below (back_at k other below there))
+    closed_at none k other (inr is) there =
+        subst (λ (s : State). IsClosed script named new after.outcomes.items s)
+        (same_at new.states.keys i state other (grows.states i state at) (subst (λ (j : ℕ). slice_get new.states.keys j ≡ Some other) is there))
+        (here none)
 
 -- where nobody can go, the state leads nowhere
 pub closed_over : (script : ScriptValue) (named : List Named) (g : Graph) (m : MachineValue) (state : State) (outcomes : List Outcome) → AreExact → m.script ≡ script → IsImage m state.facts.items → AreReady m [] → EndsIn script named outcomes state → IsClosed script named g outcomes state
@@ -199,9 +201,9 @@ covered_all script named g outcomes closed (a ∷ path) order goes h =
     let next = (closed h.0 h.1 h.2).leads a order goes.0 goes.1 h.3 in
     subst (λ (o : List ℕ). IsCovered script named o g.states.keys) (append_assoc order (a ∷ []) path)
     (
-      covered_all script named g outcomes closed path (order ++ a ∷ [])
-      (subst (λ (r : RunState). Goes script r path) (sym (turned-append script (run_start script) order (a ∷ []))) goes.2)
-      next
+    covered_all script named g outcomes closed path (order ++ a ∷ [])
+    (subst (λ (r : RunState). Goes script r path) (sym (turned-append script (run_start script) order (a ∷ []))) goes.2)
+    next
     )
 
 -- Unless one was left out, every order comes to an outcome.

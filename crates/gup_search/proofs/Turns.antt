@@ -36,7 +36,7 @@ journal_on script r n (b ∷ order) a =
     let later : List NoteValue = journal_of (n + 1) (run_after script r b).places (turns_in script (run_after script r b) order) in (
       more.0,
       ap (λ (notes : List NoteValue). notes_in script n r b ++ notes) more.1
-      ∙ sym (append_assoc (notes_in script n r b) later (notes_in script more.0 (turned script (run_after script r b) order) a)),
+          ∙ sym (append_assoc (notes_in script n r b) later (notes_in script more.0 (turned script (run_after script r b) order) a)),
     )
 
 -- what is told after one turn more
@@ -83,7 +83,7 @@ is_within n k within = grind (arith, nat_tests)
 ready_by : (ops : List Op) (k : ℕ) (waiting : Option Waiting) → (not (nat_le (length ops) k) && is_none waiting) ≡ is_ready (slice_get ops k) waiting
 ready_by ops k waiting =
     elim (slice_get_cases ops k).1 [
-        inl w ↦ ap (λ (b : Bool). not b && is_none waiting) (is_within (length ops) k w.1) ∙ ready_some w.0 waiting ∙ ap (λ (o : Option Op). is_ready o waiting) (sym w.2)
+      | inl w ↦ ap (λ (b : Bool). not b && is_none waiting) (is_within (length ops) k w.1) ∙ ready_some w.0 waiting ∙ ap (λ (o : Option Op). is_ready o waiting) (sym w.2)
       | inr w ↦ ap (λ (b : Bool). not b && is_none waiting) (is_past (length ops) k w.0) ∙ ready_none waiting ∙ ap (λ (o : Option Op). is_ready o waiting) (sym w.1)
     ]
 

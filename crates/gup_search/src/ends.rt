@@ -60,10 +60,7 @@ impl Ends {
     }
 }
 
-fn copy_of(
-    alloc: Global,
-    waits: &[Option<Waiting>],
-) -> Result<Vec<Option<Waiting>>, NoMemory>
+fn copy_of(alloc: Global, waits: &[Option<Waiting>]) -> Result<Vec<Option<Waiting>>, NoMemory>
     ensures { IfOk result (λ copy. copy.items ≡ waits.now) }
 {
     let copy = waits.iter().copied().collect(alloc)?;

@@ -95,7 +95,11 @@ fn step(
     let mut tells = graph.state(i).tells.clone()?;
     tell_turn(&mut machine, task.named, actor, &mut tells)?;
     let facts = machine.image(alloc)?;
-    graph.add(State { facts, tells }, Some(Step { parent: i, actor }), task.limit)
+    graph.add(
+        State { facts, tells },
+        Some(Step { parent: i, actor }),
+        task.limit,
+    )
 }
 
 // Adds the states that the turns of these actors lead to, each taken by a machine of its own.

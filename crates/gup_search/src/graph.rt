@@ -67,7 +67,12 @@ impl Graph {
     }
 
     /// Adds a state that isn't there yet, and the turn that led to it. Where there are `limit` states already, it is left out.
-    pub(crate) fn add(&mut self, state: State, step: Option<Step>, limit: usize) -> Result<(), NoMemory>
+    pub(crate) fn add(
+        &mut self,
+        state: State,
+        step: Option<Step>,
+        limit: usize,
+    ) -> Result<(), NoMemory>
         ensures { OnOk result (Adds limit self.old self.new state step) }
     {
         if self.states.len() < limit {

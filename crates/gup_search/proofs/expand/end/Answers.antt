@@ -19,11 +19,11 @@ returns-clause-found c =
     subst (λ (xs : List ℕ). IsLed task.script.now task.behind task.named.now xs state.facts.items state.tells.items) (sym (c.in_ok-path.ensures r.0 r.1)) r.2 in
     on_ok_both c.add.result _ _ _
     (
-      λ known adds.
-      record {
-        known = known;
-        happen = happen_added task.script.now task.behind task.named.now c.args.machine.now state c.args.ends.now.outcomes.items c.add.new.self.outcomes.items outcome c.images_are_exact.ensures c.requires.at.same (c.requires.at.image state c.state.ensures) c.requires.over c.in_ok-waits.ensures told led adds c.requires.found.happen;
-      }
+    λ known adds.
+    record {
+      known = known;
+      happen = happen_added task.script.now task.behind task.named.now c.args.machine.now state c.args.ends.now.outcomes.items c.add.new.self.outcomes.items outcome c.images_are_exact.ensures c.requires.at.same (c.requires.at.image state c.state.ensures) c.requires.over c.in_ok-waits.ensures told led adds c.requires.found.happen;
+    }
     )
     c.add.ensures.known c.add.ensures.adds
 
@@ -39,8 +39,8 @@ returns-clause-ends c =
     let told = same_from_all_zip _ state.tells.items c.in_ok-tells.tells.items c.in_ok-tells.ensures.cases.0 (λ x y h. h) in
     on_ok c.add.result _ _
     (
-      λ adds other there.
-      subst (λ (s : State). EndsIn task.script.now task.named.now c.add.new.self.outcomes.items s) (same_at c.args.graph.now.states.keys c.args.i state other c.state.ensures there)
-      (ends_added task.script.now task.named.now c.args.machine.now state c.in_ok-tells.tells.items c.in_ok-waits.waits.items c.add.new.self.outcomes.items c.images_are_exact.ensures c.requires.at.same (c.requires.at.image state c.state.ensures) c.in_ok-waits.ensures told adds.found)
+    λ adds other there.
+    subst (λ (s : State). EndsIn task.script.now task.named.now c.add.new.self.outcomes.items s) (same_at c.args.graph.now.states.keys c.args.i state other c.state.ensures there)
+    (ends_added task.script.now task.named.now c.args.machine.now state c.in_ok-tells.tells.items c.in_ok-waits.waits.items c.add.new.self.outcomes.items c.images_are_exact.ensures c.requires.at.same (c.requires.at.image state c.state.ensures) c.in_ok-waits.ensures told adds.found)
     )
     c.add.ensures.adds

@@ -39,9 +39,9 @@ returns-in-None c =
     let are : AreReady m [] = subst (λ (xs : List ℕ). AreReady m xs) (sym c.as_slice.ensures.value ∙ no_items c.as_slice.result.now c.in-None.ensures.cases) c.in_ok-ready.ensures in
     on_ok_three c.end.result _ _ _ _
     (
-      λ found keeps ends.
-      search_on task.script.now task.behind task.named.now task.limit graph graph c.args.ends.now c.end.new.ends c.args.i state.0 state.1 c.requires.search c.requires.search.graph found (grows_same graph) keeps
-      (λ left. closed_over task.script.now task.named.now graph m state.0 c.end.new.ends.outcomes.items c.images_are_exact.ensures is.same (is.image state.0 state.1) are (ends state.0 state.1))
+    λ found keeps ends.
+    search_on task.script.now task.behind task.named.now task.limit graph graph c.args.ends.now c.end.new.ends c.args.i state.0 state.1 c.requires.search c.requires.search.graph found (grows_same graph) keeps
+    (λ left. closed_over task.script.now task.named.now graph m state.0 c.end.new.ends.outcomes.items c.images_are_exact.ensures is.same (is.image state.0 state.1) are (ends state.0 state.1))
     )
     c.end.ensures.found c.end.ensures.keeps c.end.ensures.ends
 
@@ -59,9 +59,9 @@ returns-in_ok-step-in-Some c =
     let are : AreReady m (first ∷ others) = subst (λ (xs : List ℕ). AreReady m xs) (sym c.as_slice.ensures.value ∙ c.in-Some.ensures.cases.0) c.in_ok-ready.ensures in
     on_ok c.step_each.result _ _
     (
-      λ two.
-      let all = steps_on task.script.now task.behind task.named.now task.limit c.args.i graph c.step.new.graph new (first ∷ []) others c.in_ok-step-in-Some.ensures two in
-      search_on task.script.now task.behind task.named.now task.limit graph new ends ends c.args.i state.0 state.1 c.requires.search all.graph c.requires.search.found all.grows (λ k o there. there)
-      (λ left. closed_led task.script.now task.named.now new m state.0 ends.outcomes.items (first ∷ others) first c.images_are_exact.ensures is.same (is.image state.0 state.1) are refl (λ k a there. all.leads left k a state.0 there state.1))
+    λ two.
+    let all = steps_on task.script.now task.behind task.named.now task.limit c.args.i graph c.step.new.graph new (first ∷ []) others c.in_ok-step-in-Some.ensures two in
+    search_on task.script.now task.behind task.named.now task.limit graph new ends ends c.args.i state.0 state.1 c.requires.search all.graph c.requires.search.found all.grows (λ k o there. there)
+    (λ left. closed_led task.script.now task.named.now new m state.0 ends.outcomes.items (first ∷ others) first c.images_are_exact.ensures is.same (is.image state.0 state.1) are refl (λ k a there. all.leads left k a state.0 there state.1))
     )
     c.step_each.ensures

@@ -13,9 +13,9 @@ turn-requires c =
 
 pub loop-actor-preserved : goal.loop-actor-preserved
 loop-actor-preserved c = (
-      c.turn.ensures.script ∙ c.loop-actor.invariant.0,
-      shows_more c.args.machine.now.script c.args.machine.now c.loop-actor.machine c.turn.new.self c.args.actors.now c.loop-actor.actor-index c.actor-item.result c.turn.result c.loop-actor.invariant.0 c.loop-actor-test.true c.actor-item.is c.turn.ensures.turn c.loop-actor.invariant.1,
-    )
+  c.turn.ensures.script ∙ c.loop-actor.invariant.0,
+  shows_more c.args.machine.now.script c.args.machine.now c.loop-actor.machine c.turn.new.self c.args.actors.now c.loop-actor.actor-index c.actor-item.result c.turn.result c.loop-actor.invariant.0 c.loop-actor-test.true c.actor-item.is c.turn.ensures.turn c.loop-actor.invariant.1,
+)
 
 pub returns-clause-shows : goal.returns-clause-shows
 returns-clause-shows c =

@@ -8,11 +8,11 @@ pub returns-clause-turn : goal.returns-clause-turn
 returns-clause-turn c =
     on_ok c.tell_notes.result _ _
     (
-      λ told.
-      record {
-        notes = c.turn-turn.result;
-        taken = c.turn-turn.ensures.turn;
-        tells = subst (λ (ns : List NoteValue). Tells c.args.named.now c.args.tells.now.items c.tell_notes.new.tells.items ns) c.notes.ensures.notes told;
-      }
+    λ told.
+    record {
+      notes = c.turn-turn.result;
+      taken = c.turn-turn.ensures.turn;
+      tells = subst (λ (ns : List NoteValue). Tells c.args.named.now c.args.tells.now.items c.tell_notes.new.tells.items ns) c.notes.ensures.notes told;
+    }
     )
     c.tell_notes.ensures

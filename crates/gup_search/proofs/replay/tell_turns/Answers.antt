@@ -15,9 +15,9 @@ tell_turn-requires c =
 
 pub loop-actor-preserved : goal.loop-actor-preserved
 loop-actor-preserved c = (
-      c.tell_turn.ensures.script ∙ c.loop-actor.invariant.0,
-      λ script. stands_more script c.args.named.now c.args.machine.now c.loop-actor.machine c.tell_turn.new.machine c.args.tells.now.items c.loop-actor.tells.items c.tell_turn.new.tells.items c.args.actors.now c.loop-actor.actor-index c.actor-item.result c.tell_turn.ensures.script c.loop-actor-test.true c.actor-item.is c.in_ok-tell_turn.ensures.turn (c.loop-actor.invariant.1 script),
-    )
+  c.tell_turn.ensures.script ∙ c.loop-actor.invariant.0,
+  λ script. stands_more script c.args.named.now c.args.machine.now c.loop-actor.machine c.tell_turn.new.machine c.args.tells.now.items c.loop-actor.tells.items c.tell_turn.new.tells.items c.args.actors.now c.loop-actor.actor-index c.actor-item.result c.tell_turn.ensures.script c.loop-actor-test.true c.actor-item.is c.in_ok-tell_turn.ensures.turn (c.loop-actor.invariant.1 script),
+)
 
 pub returns-clause-stands : goal.returns-clause-stands
 returns-clause-stands c =

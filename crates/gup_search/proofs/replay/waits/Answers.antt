@@ -14,9 +14,9 @@ loop-k-preserved c =
     let k = c.loop-k.k in
     subst (λ (ws : List (Option Waiting)). AreWaitsTo m ws (k + 1)) (sym c.in_ok-push.ensures.items)
     (
-      waits_more m c.loop-k.waits.items k c.waits.result
-      (λ r shown. c.waits.ensures r shown ∙ ap (λ (a : ℕ). waiting_in m.script r a) c.actor_no.ensures)
-      c.loop-k.invariant
+    waits_more m c.loop-k.waits.items k c.waits.result
+    (λ r shown. c.waits.ensures r shown ∙ ap (λ (a : ℕ). waiting_in m.script r a) c.actor_no.ensures)
+    c.loop-k.invariant
     )
 
 is_all : (k n m : ℕ) → n ≤ k → k ≤ n → n ≡ m → k ≡ m
@@ -26,7 +26,7 @@ pub returns : goal.returns
 returns c =
     waits_all c.args.machine.now c.loop-k.waits.items c.loop-k.k
     (
-      is_all c.loop-k.k c.actors-k-end.result (length c.args.machine.now.script.actors) c.loop-k-test.false c.loop-k.auto.k-end
-      (c.actors-k-end.ensures.count ∙ ap (λ (s : ScriptValue). length s.actors) c.script.ensures)
+    is_all c.loop-k.k c.actors-k-end.result (length c.args.machine.now.script.actors) c.loop-k-test.false c.loop-k.auto.k-end
+    (c.actors-k-end.ensures.count ∙ ap (λ (s : ScriptValue). length s.actors) c.script.ensures)
     )
     c.loop-k.invariant

@@ -17,7 +17,7 @@ loop-name-preserved c =
     let at = read_at named i operation c.loop-name-test.true c.index-named-name.is in
     let is : told_of note.what ≡ Some c.in-Some.told = ap (λ (w : What). told_of w) (sym c.what.ensures) ∙ sym c.telling.ensures ∙ c.in-Some.is in
     elim c.if-is_note_of.branch [
-        then-is_note_of+in_ok-put_tell w ↦
+      | then-is_note_of+in_ok-put_tell w ↦
           subst (λ (ts : List Tell). TellsTo named old ts note (i + 1)) (sym (ap (λ v. v.items) w.tells-is))
           (tells_step named old c.loop-name.tells.items w.put_tell.new.tells.items note c.in-Some.told i operation is at (sym c.is_note_of.ensures ∙ w.if-is_note_of.true) w.in_ok-put_tell.ensures c.loop-name.invariant)
       | else-is_note_of w ↦

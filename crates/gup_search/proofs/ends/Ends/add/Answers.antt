@@ -26,8 +26,8 @@ returns-in_ok-push-clause-known c =
     λ k end there.
     subst (λ (os : List Outcome). HasEnd os end.tells.items end.waits.items) (sym c.in_ok-push.ensures.items)
     (
-      known_pushed c.args.self.now.known.keys c.args.self.now.outcomes.items (record { tells = c.in_ok-clone.field-0; waits = c.in_ok-copy_of.field-0 }) c.args.outcome c.requires told (c.in_ok-copy_of.ensures ∙ c.as_slice.ensures.value) k end
-      (subst (λ (ks : List End). slice_get ks k ≡ Some end) pushed there)
+    known_pushed c.args.self.now.known.keys c.args.self.now.outcomes.items (record { tells = c.in_ok-clone.field-0; waits = c.in_ok-copy_of.field-0 }) c.args.outcome c.requires told (c.in_ok-copy_of.ensures ∙ c.as_slice.ensures.value) k end
+    (subst (λ (ks : List End). slice_get ks k ≡ Some end) pushed there)
     )
 
 pub returns-in_ok-push-clause-adds : goal.returns-in_ok-push-clause-adds

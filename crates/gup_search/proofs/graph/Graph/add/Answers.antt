@@ -14,17 +14,17 @@ returns-else-is_new c =
     let same = state_same c.args.state.facts.items h.0.facts.items c.args.state.tells.items h.0.tells.items h.2 in
     inl
     (
-      record {
-        same = record { states = kept; steps = refl };
-        left = refl;
-        found = (c.in_ok-is_new.field-0-0, h.0, subst (λ (ks : List State). slice_get ks c.in_ok-is_new.field-0-0 ≡ Some h.0) kept h.1, same.0, same.1);
-      }
+    record {
+      same = record { states = kept; steps = refl };
+      left = refl;
+      found = (c.in_ok-is_new.field-0-0, h.0, subst (λ (ks : List State). slice_get ks c.in_ok-is_new.field-0-0 ≡ Some h.0) kept h.1, same.0, same.1);
+    }
     )
 
 pub returns-after-not-contains : goal.returns-after-not-contains
 returns-after-not-contains c =
     elim c.if-not-contains.branch [
-        then-not-contains w ↦
+      | then-not-contains w ↦
           subst (λ (g : Graph). Adds c.args.limit c.args.self.now g c.args.state c.args.step) (sym w.self-is)
           (inr (inr (record { same = record { states = refl; steps = refl }; left = refl; full = let full = c.if-len-limit.false in let len = c.len.ensures.len in omega arith })))
       | else-not-contains w ↦
