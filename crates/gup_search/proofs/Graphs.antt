@@ -6,13 +6,12 @@ use Rattle.std.proofs.Math.ListN.{length-append}
 use Rattle.gup_image.specs.declared.fact.Fact.{Fact}
 use Rattle.gup_script.specs.Script.{ScriptValue}
 use Rattle.gup_script.specs.Valid.{IsScript}
-use Rattle.gup_spec_turns.specs.Run.{RunState, run_start, run_after, turned, can_go}
+use Rattle.gup_spec_turns.specs.Run.{RunState, run_start, turned, can_go}
 use Rattle.gup_core.specs.Machine.{MachineValue, Shows, IsNew}
-use Rattle.gup_core.specs.Images.{IsImage, imaged}
-use Rattle.gup_law_image.specs.Alike.{image_in}
-use Rattle.gup_search.specs.Orders.{Goes, beginning, setup, journal_in, tells_of, told_in}
+use Rattle.gup_core.specs.Images.{IsImage}
+use Rattle.gup_search.specs.Orders.{beginning, setup, tells_of}
 use Rattle.gup_search.specs.Search.{Stands, TakesToldTurn}
-use Rattle.gup_search.specs.Graph.{IsBack, HasState, AreSame, IsThere, IsPushed, IsLeftOut, Adds, Covers, IsCovered, IsLed, IsReached, AreReached, IsGraph, Grows, LeadsBy, IsAt, CanGoAt, IsSteppedBy}
+use Rattle.gup_search.specs.Graph.{IsBack, HasState, AreSame, IsPushed, Adds, Covers, IsCovered, IsLed, IsReached, AreReached, IsGraph, Grows, LeadsBy, IsAt, CanGoAt, IsSteppedBy}
 use Rattle.gup_search.specs.declared.told.Named.{Named}
 use Rattle.gup_search.specs.declared.told.Tell.{Tell}
 use Rattle.gup_search.specs.declared.graph.Graph.{Graph}

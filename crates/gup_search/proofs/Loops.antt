@@ -1,14 +1,14 @@
 -- The loops over turns, actors and steps: what is true between two of their rounds.
-use Rattle.std.proofs.Common.{◌≡◌, ℕ, ◌+◌, ◌<◌, ◌≤◌, ◌==◌, ◌⊎◌, inl, inr, nat_lt, Bool, true, false, if◌then◌else◌, List, [], ◌∷◌, ◌++◌, Option, Some, None, length, slice_get, get_or, take, reverse, zero, suc, refl, sym, ap, subst, ◌∙◌, arith, append_assoc, append-nil}
+use Rattle.std.proofs.Common.{◌≡◌, ℕ, ◌+◌, ◌<◌, ◌≤◌, ◌==◌, ◌⊎◌, inl, inr, nat_lt, Bool, true, false, if◌then◌else◌, List, [], ◌∷◌, ◌++◌, Option, Some, None, length, slice_get, get_or, take, reverse, refl, sym, ap, subst, ◌∙◌, arith, append_assoc, append-nil}
 use Rattle.std.proofs.lemmas.Bool.Decides.{nat_tests}
 use Rattle.std.proofs.lemmas.List.{take_more}
-use Rattle.std.proofs.lemmas.Option.{slice_get_within, slice_get-get_or, get_or_from_slice_get}
+use Rattle.std.proofs.lemmas.Option.{slice_get_within}
 use Rattle.std.proofs.Math.ListN.{length-append}
-use Rattle.std.specs.List.{All, cons_option}
+use Rattle.std.specs.List.{cons_option}
 use Rattle.gup_plain.specs.Note.{NoteValue}
 use Rattle.gup_plain.specs.declared.note.Waiting.{Waiting}
 use Rattle.gup_script.specs.Script.{ScriptValue}
-use Rattle.gup_spec_turns.specs.Run.{RunState, run_start, run_after, turned, can_go, waiting_in}
+use Rattle.gup_spec_turns.specs.Run.{RunState, run_after, turned, can_go, waiting_in}
 use Rattle.gup_core.specs.Machine.{MachineValue, Shows, TakesTurns}
 use Rattle.gup_search.specs.Orders.{told_of, is_of, told_in, tells_of}
 use Rattle.gup_search.specs.Search.{Puts, Tells, Stands, TakesToldTurn, AreReady, AreWaits}
@@ -18,7 +18,6 @@ use Rattle.gup_search.specs.declared.told.Tell.{Tell}
 use Rattle.gup_search.specs.declared.told.Told.{Told}
 use Rattle.gup_search.specs.declared.graph.Step.{Step}
 use Rattle.gup_search.proofs.Lists.{at_end, at_longer, at_either, nothing_at}
-use Rattle.gup_search.proofs.Tellings.{tells_none, tells_more}
 use Rattle.gup_search.proofs.Turns.{turned-append, stands_on}
 
 -- ---- turns

@@ -1,17 +1,16 @@
 -- The search as a whole: what is closed, and what each order comes to.
 use Rattle.std.proofs.Common.{◌≡◌, ℕ, ◌+◌, ◌<◌, ◌≤◌, ◌⊎◌, inl, inr, Bool, true, false, List, [], ◌∷◌, ◌++◌, Option, Some, None, length, get_or, slice_get, refl, sym, ap, subst, ◌∙◌, arith, append_assoc, append-nil}
 use Rattle.std.proofs.lemmas.Option.{slice_get_within, slice_get_cases}
-use Rattle.gup_plain.specs.Note.{NoteValue}
 use Rattle.gup_plain.specs.declared.note.Waiting.{Waiting}
 use Rattle.gup_script.specs.Script.{ScriptValue}
-use Rattle.gup_spec_turns.specs.Run.{RunState, run_start, run_after, turned, can_go, waiting_in}
+use Rattle.gup_spec_turns.specs.Run.{RunState, run_start, turned, can_go, waiting_in}
 use Rattle.gup_core.specs.Machine.{MachineValue, Shows}
 use Rattle.gup_core.specs.Images.{IsImage}
-use Rattle.gup_search.specs.Orders.{Goes, IsOver, IsOrder, IsOutcome, AreOfOrders, AreOfAllOrders, beginning, setup, journal_in, tells_of, told_in}
-use Rattle.gup_search.specs.Search.{AreTold, Stands, AreReady, AreWaits}
-use Rattle.gup_search.specs.Graph.{Covers, IsCovered, IsLed, IsGraph, Grows, Leads, LeadsBy, IsAt, CanGoAt, IsSteppedBy}
+use Rattle.gup_search.specs.Orders.{Goes, IsOver, IsOrder, IsOutcome, AreOfOrders, AreOfAllOrders, beginning, setup, tells_of}
+use Rattle.gup_search.specs.Search.{Stands, AreReady, AreWaits}
+use Rattle.gup_search.specs.Graph.{IsCovered, IsLed, IsGraph, Grows, LeadsBy, IsAt, CanGoAt}
 use Rattle.gup_search.specs.Ends.{HasEnd, IsEnds, AddsOutcome}
-use Rattle.gup_search.specs.Explored.{HasOutcome, EndsIn, IsClosed, Keeps, AreFound, IsSearch}
+use Rattle.gup_search.specs.Explored.{EndsIn, IsClosed, Keeps, AreFound, IsSearch}
 use Rattle.gup_search.specs.declared.told.Named.{Named}
 use Rattle.gup_search.specs.declared.told.Tell.{Tell}
 use Rattle.gup_search.specs.declared.graph.Graph.{Graph}
@@ -20,7 +19,7 @@ use Rattle.gup_search.specs.declared.search.Outcome.{Outcome}
 use Rattle.gup_search.specs.declared.ends.Ends.{Ends}
 use Rattle.gup_search.proofs.Lists.{at_longer, at_either, nothing_at, same_at}
 use Rattle.gup_search.proofs.Turns.{turned-append}
-use Rattle.gup_search.proofs.Graphs.{AreExact, stands_at, covered_on, grows_same}
+use Rattle.gup_search.proofs.Graphs.{AreExact, stands_at, covered_on}
 
 true_or_false : (b : Bool) → b ≡ true → b ≡ false → ⊥
 true_or_false b one two = cc

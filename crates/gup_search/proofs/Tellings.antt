@@ -1,9 +1,9 @@
 -- What is told, and where it is put in.
-use Rattle.std.proofs.Common.{◌≡◌, ℕ, ◌+◌, ◌<◌, ◌≤◌, ◌==◌, Bool, true, false, if◌then◌else◌, List, [], ◌∷◌, ◌++◌, Option, Some, None, length, take, drop, map, filter, slice_get, refl, sym, ap, subst, ◌∙◌, arith, append_assoc, append-nil}
+use Rattle.std.proofs.Common.{◌≡◌, ℕ, ◌<◌, ◌==◌, Bool, true, false, if◌then◌else◌, List, [], ◌∷◌, ◌++◌, Option, Some, None, take, drop, map, filter, refl, sym, ap, subst, ◌∙◌, arith, append_assoc, append-nil}
 use Rattle.std.proofs.lemmas.Bool.Decides.{nat_tests}
 use Rattle.std.proofs.lemmas.List.{map-append, take-append-drop}
 use Rattle.std.proofs.lemmas.List.Elements.{filter-append, All-head, All-tail}
-use Rattle.std.specs.List.{All, insert, cons_option}
+use Rattle.std.specs.List.{All, cons_option}
 use Rattle.gup_plain.specs.Note.{NoteValue}
 use Rattle.gup_plain.specs.declared.note.What.{What}
 use Rattle.gup_spec_journal.specs.Follows.{note_of, notes_of_turn}

@@ -8,12 +8,12 @@ use Rattle.gup_plain.specs.Note.{NoteValue}
 use Rattle.gup_plain.specs.declared.note.Waiting.{Waiting}
 use Rattle.gup_script.specs.declared.op.Op.{Op}
 use Rattle.gup_script.specs.Script.{ScriptValue, ops_of}
-use Rattle.gup_spec_journal.specs.Place.{Place, has_finished, present_op}
+use Rattle.gup_spec_journal.specs.Place.{has_finished}
 use Rattle.gup_spec_journal.specs.Follows.{notes_of_turn}
-use Rattle.gup_spec_journal.specs.Order.{Turn, journal_of}
-use Rattle.gup_spec_turns.specs.Run.{RunState, run_start, run_after, turned, turn_in, core_turn_in, can_go, is_ready, op_in, waiting_in}
-use Rattle.gup_core.specs.Machine.{MachineValue, Shows, TakesTurn, TakesTurns, counted}
-use Rattle.gup_search.specs.Orders.{Goes, IsOver, turns_in, journal_in, told_in, tells_of}
+use Rattle.gup_spec_journal.specs.Order.{journal_of}
+use Rattle.gup_spec_turns.specs.Run.{RunState, run_start, run_after, turned, core_turn_in, can_go, is_ready, waiting_in}
+use Rattle.gup_core.specs.Machine.{MachineValue, Shows, counted}
+use Rattle.gup_search.specs.Orders.{Goes, turns_in, journal_in, told_in}
 use Rattle.gup_search.specs.Search.{AreTold, Tells, Stands, TakesToldTurn}
 use Rattle.gup_search.specs.declared.told.Named.{Named}
 use Rattle.gup_search.specs.declared.told.Tell.{Tell}

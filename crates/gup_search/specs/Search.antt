@@ -8,7 +8,6 @@ use Rattle.gup_core.specs.Machine.{MachineValue, Shows, TakesTurns}
 use Rattle.gup_search.specs.Orders.{told_in, tells_of, journal_in}
 use Rattle.gup_search.specs.declared.told.Named.{Named}
 use Rattle.gup_search.specs.declared.told.Tell.{Tell}
-use Rattle.gup_search.specs.declared.told.Told.{Told}
 
 -- the tells are what the notes tell of the named operations
 abbrev pub AreTold : List Named → List Tell → List NoteValue → Type 0

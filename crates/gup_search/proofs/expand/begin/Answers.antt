@@ -1,4 +1,4 @@
-use Rattle.std.proofs.Common.{◌≡◌, ℕ, List, [], sym, ap, subst, ◌∙◌}
+use Rattle.std.proofs.Common.{ℕ, List, [], subst}
 use Rattle.gup_search.specs.Orders.{setup}
 use Rattle.gup_search.specs.Search.{Stands}
 use Rattle.gup_search.specs.declared.graph.State.{State}

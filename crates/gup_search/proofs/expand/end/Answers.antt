@@ -1,4 +1,4 @@
-use Rattle.std.proofs.Common.{◌≡◌, ℕ, List, reverse, sym, ap, subst, ◌∙◌}
+use Rattle.std.proofs.Common.{ℕ, List, sym, subst}
 use Rattle.std.proofs.lemmas.List.Elements.{same_from_all_zip}
 use Rattle.gup_search.specs.Graph.{IsLed}
 use Rattle.gup_search.specs.Explored.{EndsIn}

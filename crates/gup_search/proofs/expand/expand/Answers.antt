@@ -1,4 +1,4 @@
-use Rattle.std.proofs.Common.{◌≡◌, ℕ, List, [], ◌∷◌, suc, refl, sym, ap, subst, ◌∙◌}
+use Rattle.std.proofs.Common.{ℕ, List, [], ◌∷◌, suc, refl, sym, subst, ◌∙◌}
 use Rattle.gup_search.specs.Search.{AreReady}
 use Rattle.gup_search.proofs.Lists.{there_is, no_items, on_ok, on_ok_three}
 use Rattle.gup_search.proofs.Graphs.{grows_same, there_grown, can_go_grown, steps_on}

@@ -1,4 +1,4 @@
-use Rattle.std.proofs.Common.{◌≡◌, ℕ, ◌<◌, List, ◌++◌, length, reverse, refl, sym, ap, subst, ◌∙◌}
+use Rattle.std.proofs.Common.{ℕ, ◌<◌, List, ◌++◌, length, reverse, refl, sym, subst, ◌∙◌}
 use Rattle.std.specs.List.{All}
 use Rattle.gup_core.specs.Images.{IsImage, imaged}
 use Rattle.gup_core.specs.Machine.{Shows}

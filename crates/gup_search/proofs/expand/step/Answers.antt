@@ -1,4 +1,3 @@
-use Rattle.std.proofs.Common.{◌≡◌, ℕ, List, sym, ap, subst, ◌∙◌}
 use Rattle.std.proofs.lemmas.List.Elements.{same_from_all_zip}
 use Rattle.gup_search.specs.declared.graph.State.{State}
 use Rattle.gup_search.proofs.Lists.{on_ok}

@@ -1,4 +1,4 @@
-use Rattle.std.proofs.Common.{List, sym, subst}
+use Rattle.std.proofs.Common.{List, subst}
 use Rattle.gup_plain.specs.Note.{NoteValue}
 use Rattle.gup_search.specs.Search.{Tells}
 use Rattle.gup_search.proofs.Lists.{on_ok}

@@ -1,4 +1,4 @@
-use Rattle.std.proofs.Common.{◌≡◌, ℕ, List, sym, ap, subst, ◌∙◌, length, ◌≤◌, arith}
+use Rattle.std.proofs.Common.{List, sym, subst, ◌∙◌, length, ◌≤◌, arith}
 use Rattle.gup_search.specs.Orders.{AreOfOrders, AreOfAllOrders}
 use Rattle.gup_search.specs.declared.search.Outcome.{Outcome}
 use Rattle.gup_search.proofs.Searches.{all_found}

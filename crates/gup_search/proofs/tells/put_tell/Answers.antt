@@ -1,4 +1,4 @@
-use Rattle.std.proofs.Common.{◌<◌, List, ◌∷◌, ◌++◌, take, drop, sym, subst}
+use Rattle.std.proofs.Common.{◌<◌, List, drop, sym, subst}
 use Rattle.std.specs.List.{All}
 use Rattle.gup_search.specs.Search.{Puts}
 use Rattle.gup_search.specs.declared.told.Tell.{Tell}

@@ -1,4 +1,4 @@
-use Rattle.std.proofs.Common.{◌≡◌, ℕ, ◌+◌, List, Option, Some, slice_get, sym, ap, subst, ◌∙◌}
+use Rattle.std.proofs.Common.{◌≡◌, ◌+◌, List, Some, sym, ap, subst, ◌∙◌}
 use Rattle.gup_plain.specs.declared.note.What.{What}
 use Rattle.gup_search.specs.Orders.{told_of}
 use Rattle.gup_search.specs.declared.told.Tell.{Tell}

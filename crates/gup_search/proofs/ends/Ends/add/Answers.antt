@@ -1,8 +1,6 @@
-use Rattle.std.proofs.Common.{◌≡◌, ℕ, ◌⊎◌, List, [], ◌∷◌, ◌++◌, Some, Option, slice_get, length, inl, inr, refl, sym, ap, subst, ◌∙◌, arith}
+use Rattle.std.proofs.Common.{◌≡◌, ℕ, ◌⊎◌, List, [], ◌∷◌, ◌++◌, Some, slice_get, length, inl, inr, refl, sym, subst, ◌∙◌}
 use Rattle.std.proofs.lemmas.List.Elements.{same_from_all_zip}
-use Rattle.gup_plain.specs.declared.note.Waiting.{Waiting}
 use Rattle.gup_search.specs.Ends.{HasEnd}
-use Rattle.gup_search.specs.declared.told.Tell.{Tell}
 use Rattle.gup_search.specs.declared.search.Outcome.{Outcome}
 use Rattle.gup_search.specs.declared.ends.End.{End}
 use Rattle.gup_search.proofs.Lists.{kept_keys, pushed_keys, at_end, at_longer, at_either}

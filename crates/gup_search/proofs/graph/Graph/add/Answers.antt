@@ -1,4 +1,4 @@
-use Rattle.std.proofs.Common.{◌≡◌, ℕ, ◌≤◌, List, Some, slice_get, length, inl, inr, refl, sym, ap, subst, ◌∙◌, arith}
+use Rattle.std.proofs.Common.{◌≡◌, List, Some, slice_get, inl, inr, refl, sym, subst, ◌∙◌, arith}
 use Rattle.gup_search.specs.Graph.{Adds}
 use Rattle.gup_search.specs.declared.graph.Graph.{Graph}
 use Rattle.gup_search.specs.declared.graph.State.{State}

@@ -1,4 +1,4 @@
-use Rattle.std.proofs.Common.{◌≡◌, ℕ, ◌<◌, List, [], ◌∷◌, ◌++◌, length, slice_get, Option, Some, None, reverse, sym, ap, subst, ◌∙◌, arith}
+use Rattle.std.proofs.Common.{◌≡◌, ℕ, ◌<◌, List, length, slice_get, Option, Some, None, sym, ap, subst, ◌∙◌, arith}
 use Rattle.gup_search.specs.declared.graph.Step.{Step}
 use Rattle.gup_search.proofs.Lists.{read_at}
 use Rattle.gup_search.proofs.Loops.{IsBackTo, back_first, back_within, back_more, back_smaller, back_all}
