@@ -70,6 +70,10 @@ fn answer(outcome: &Outcome, name: usize) -> Option<Answer> {
     None
 }
 
+fn waits_for_a_pin(waits: &[Option<Waiting>], actor: usize) -> bool {
+    actor < waits.len() && matches!(&waits[actor], Some(Waiting::Handle(_)))
+}
+
 #[test]
 fn a_walk_beside_a_move_has_seven_outcomes(rt: HostRuntime) -> Result<(), Fail> {
     let found = explored(rt.alloc(), WALK_AND_MOVE, false, 10_000)?;
@@ -126,7 +130,7 @@ fn a_stuck_order_is_an_outcome(rt: HostRuntime) -> Result<(), Fail> {
     assert_eq!(rt; found.outcomes.len(), 2);
     let mut stuck = 0_u8;
     for outcome in found.outcomes.iter() {
-        if let Some(Some(Waiting::Handle(_handle))) = outcome.waits.get(2).copied() {
+        if waits_for_a_pin(outcome.waits.as_slice(), 2) {
             stuck = stuck.saturating_add(1);
             assert_eq!(rt; answer(outcome, 2), Some(Answer::NotHeld));
         }
