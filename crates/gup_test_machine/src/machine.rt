@@ -2,13 +2,9 @@ ghost use Rattle.std.specs.Prelude.{◌≡◌, ◌<◌, ◌≤◌, ◌^◌, true
 ghost use Rattle.gup_script.specs.Valid.{IsOp, IsPages};
 ghost use Rattle.gup_op_pages.specs.Alone.{IsAlone};
 
-use gup_base::{
-    ActorNo, Entry, FrameNo, HandleNo, NoMemory, PageNo, ProcNo, Rights, Want, WordNo, Zone,
-};
+use gup_base::{ActorNo, HandleNo, NoMemory, PageNo, ProcNo, Rights, Want, WordNo, Zone};
 use gup_core::Machine;
-use gup_image::{Fact, KeptFact};
-use gup_op_base::JobPlace;
-use gup_op_waits::Birth;
+use gup_image::KeptFact;
 use gup_plain::{Answer, PlainEvent, Waiting, What};
 use gup_script::{Actor, Contents, Kind, Op, Process, Script};
 use std::alloc::Global;
@@ -464,88 +460,6 @@ fn after(alloc: Global, order: &[u8]) -> Result<Machine, Fail> {
         }
     }
     Ok(machine)
-}
-
-// A process of which nothing is mapped.
-fn bare(number: u64, birth: Birth) -> Fact
-    requires number { number < 3 }
-{
-    Fact::Process {
-        proc: proc(number),
-        birth,
-        has_pinned: false,
-        structure: None,
-        table: None,
-        pages: 0,
-        sequence: 0,
-    }
-}
-
-fn stands(number: u64, answered: u32) -> Fact
-    requires number { number < 6 }
-{
-    Fact::Stands {
-        actor: actor(number),
-        far: 0,
-        answered,
-        job: JobPlace::Unbegun,
-    }
-}
-
-#[test]
-fn an_image_has_what_turns_have_led_to(rt: HostRuntime) -> Result<(), Fail> {
-    let alloc = rt.alloc();
-    let frame = FrameNo::new(0).unwrap();
-    let mapped = Fact::Process {
-        proc: proc(0),
-        birth: Birth::Born,
-        has_pinned: false,
-        structure: None,
-        table: None,
-        pages: 1,
-        sequence: 0,
-    };
-    let page = Fact::Page {
-        proc: proc(0),
-        rights: Rights::RW,
-        entry: Some(Entry {
-            frame,
-            writable: true,
-        }),
-        page: page(5),
-    };
-    let facts = [
-        Fact::Zones {
-            movable: 1,
-            normal: 1,
-        },
-        Fact::Frame {
-            mark: true,
-            frame,
-            count: 1,
-        },
-        Fact::Word {
-            frame,
-            word: word(),
-            value: 9,
-        },
-        mapped,
-        page,
-        bare(1, Birth::Born),
-        bare(2, Birth::Unborn),
-        stands(0, 2),
-        stands(1, 0),
-        stands(2, 0),
-        stands(3, 0),
-        stands(4, 0),
-        stands(5, 0),
-    ];
-    let told = image(alloc, &after(alloc, &[0, 0])?)?;
-    assert_eq!(rt; told.len(), facts.len());
-    for (fact, wanted) in told.iter().zip(&facts) {
-        assert_eq!(rt; fact.fact(), *wanted);
-    }
-    Ok(())
 }
 
 #[test]
