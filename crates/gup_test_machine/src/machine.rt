@@ -4,7 +4,6 @@ ghost use Rattle.gup_op_pages.specs.Alone.{IsAlone};
 
 use gup_base::{ActorNo, HandleNo, NoMemory, PageNo, ProcNo, Rights, Want, WordNo, Zone};
 use gup_core::Machine;
-use gup_image::KeptFact;
 use gup_plain::{Answer, PlainEvent, Waiting, What};
 use gup_script::{Actor, Contents, Kind, Op, Process, Script};
 use std::alloc::Global;
@@ -439,38 +438,5 @@ fn references_wait_for_forks(rt: HostRuntime) -> Result<(), Fail> {
     assert_eq!(rt; machine.free_frames(Zone::Normal), 1);
     turn(&rt, &mut machine, 4, &[DONE]);
     turn(&rt, &mut machine, 4, &[NOT_HELD]);
-    Ok(())
-}
-
-fn image(alloc: Global, machine: &Machine) -> Result<Vec<KeptFact>, Fail> {
-    match machine.image(alloc) {
-        Ok(facts) => Ok(facts),
-        Err(NoMemory) => Err("memory".into()),
-    }
-}
-
-// A machine that has taken turns of these actors, two of which map a page and store a word.
-fn after(alloc: Global, order: &[u8]) -> Result<Machine, Fail> {
-    let first = Vec::from_array(alloc, [map(5, 1), store(5, 9)])?;
-    let second = Vec::from_array(alloc, [map(6, 1), store(6, 8)])?;
-    let mut machine = machine(alloc, first, second, Vec::new(alloc))?;
-    for number in order {
-        if *number < 6 {
-            let _notes = machine.turn(actor(u64::from(*number)));
-        }
-    }
-    Ok(machine)
-}
-
-#[test]
-fn images_are_the_same_where_states_are(rt: HostRuntime) -> Result<(), Fail> {
-    let alloc = rt.alloc();
-    let told = image(alloc, &after(alloc, &[0, 1, 0, 1])?)?;
-    // The order of the two maps leaves nothing behind, nor do the turns of one that waits and of one that has finished.
-    assert!(rt; told == image(alloc, &after(alloc, &[1, 0, 0, 1])?)?);
-    assert!(rt; told == image(alloc, &after(alloc, &[2, 0, 1, 0, 0, 1, 2])?)?);
-    // That of the two stores does: the first one takes the movable frame.
-    assert!(rt; told != image(alloc, &after(alloc, &[0, 1, 1, 0])?)?);
-    assert!(rt; told != image(alloc, &after(alloc, &[0, 1, 0])?)?);
     Ok(())
 }
