@@ -56,6 +56,7 @@ impl Place {
 
 impl<'a> Job<'a> {
     /// The job of these parts, with slots from this one on. That the pin and the store have them is not said.
+    #[inline]
     pub fn new(first_slot: u32, parts: &'a Parts) -> Job<'a>
         requires { words_of parts.now ≤ 64 }
         ensures { result ≡ job_of first_slot parts.now }
@@ -69,6 +70,7 @@ impl<'a> Job<'a> {
     }
 
     /// How many words it moves, at most 64.
+    #[inline]
     pub fn words(&self) -> u8
         ensures words { result ≡ words_of self.now.parts }
         ensures few { result ≤ 64 }
@@ -77,6 +79,7 @@ impl<'a> Job<'a> {
     }
 
     /// Whether each word of each part is a word of a pin of so many pages, and the store has so many slots that each word has its own.
+    #[inline]
     pub fn fits(&self, pages: u8, slots: u16) -> bool
         ensures { result ≡ fits_in pages slots self.now }
     {
@@ -101,6 +104,7 @@ impl<'a> Job<'a> {
 
     /// Where the word with this number is, from 0: the words of a part follow each other, and behind its last one comes the first of
     /// the next part; their slots follow each other over all parts.
+    #[inline]
     pub fn at(&self, k: u16) -> Place
         requires fits { (pages slots : ℕ) × (pages < 2 ^ 8) × (slots < 2 ^ 16) × (fits_in pages slots self.now ≡ true) }
         requires within { k < words_of self.now.parts }
