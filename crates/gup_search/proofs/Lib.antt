@@ -1,7 +1,9 @@
 pub mod Lists
+pub mod Numbers
+pub mod Same
+pub mod Kept
 pub mod Tellings
 pub mod Turns
 pub mod Graphs
 pub mod Searches
 pub mod Loops
-pub mod Same

@@ -1,5 +1,5 @@
 -- Lists that one more is pushed to, and what stands at a place.
-use Rattle.std.proofs.Common.{◌≡◌, ℕ, ◌<◌, ◌⊎◌, inl, inr, List, [], ◌∷◌, ◌++◌, Some, length, slice_get, zero, suc, get_or, Bool, true, false, not, ◌||◌, if◌then◌else◌, Result, Ok, Err, OnOk, refl, ap, arith}
+use Rattle.std.proofs.Common.{◌≡◌, ℕ, ◌<◌, ◌⊎◌, inl, inr, List, [], ◌∷◌, ◌++◌, Option, Some, None, length, slice_get, zero, suc, get_or, Bool, true, false, not, ◌||◌, if◌then◌else◌, Result, Ok, Err, OnOk, OnErr, IfSome, IfNone, refl, sym, ap, subst, arith}
 use Rattle.std.proofs.lemmas.Option.{slice_get_read}
 use Rattle.std.specs.List.{list_any}
 
@@ -28,10 +28,18 @@ one_only x y (suc k) there = absurd (nothing_at k y there)
 pub same_at : {X : Type 0} (xs : List X) (k : ℕ) (x y : X) → slice_get xs k ≡ Some x → slice_get xs k ≡ Some y → x ≡ y
 same_at xs k x y one two = cc
 
+pub same_some : {X : Type 0} (x y : X) → Some x ≡ Some y → x ≡ y
+same_some x y is = cc
+
 pub there_is : {X : Type 0} (xs : List X) (k : ℕ) → k < length xs → (x : X) × (slice_get xs k ≡ Some x)
 there_is [] k within = absurd (omega arith)
 there_is (x ∷ xs) zero within = (x, refl)
 there_is (x ∷ xs) (suc k) within = there_is xs k (omega arith)
+
+pub get_at : {X : Type 0} (xs : List X) (k : ℕ) (d : X) → k < length xs → slice_get xs k ≡ Some (get_or xs k d)
+get_at [] k d within = absurd (omega arith)
+get_at (x ∷ xs) zero d within = refl
+get_at (x ∷ xs) (suc k) d within = get_at xs k d (omega arith)
 
 -- what is read at a place is there
 pub read_at : {X : Type 0} (xs : List X) (k : ℕ) (x : X) → k < length xs → x ≡ get_or xs k x → slice_get xs k ≡ Some x
@@ -49,6 +57,19 @@ pub on_ok_three : {A E : Type 0} (r : Result A E) (P Q R S : Type 0) → (P → 
 on_ok_three (Ok x) P Q R S f h k l = f h k l
 on_ok_three (Err e) P Q R S f h k l = tt
 
+pub true_or_false : (b : Bool) → b ≡ true → b ≡ false → ⊥
+true_or_false b one two = cc
+
+pub on_err : {A E : Type 0} (r : Result A E) (P : Type 0) → P → OnErr r P
+on_err (Ok x) P h = tt
+on_err (Err e) P h = h
+
+pub if_some : {A : Type 0} (o : Option A) (x : A) (P : A → Type 0) → o ≡ Some x → IfSome o P → P x
+if_some {A} o x P is h = subst (λ (p : Option A). IfSome p P) is h
+
+pub if_none : {A : Type 0} (o : Option A) (P : Type 0) → o ≡ None → IfNone o P → P
+if_none {A} o P is h = subst (λ (p : Option A). IfNone p P) is h
+
 pub no_items : {X : Type 0} (xs : List X) → length xs ≡ 0 → xs ≡ []
 no_items [] none = refl
 no_items (x ∷ xs) none = absurd (omega arith)
@@ -65,6 +86,17 @@ found_or p x xs false e later h = let w = later (found_later (p x) (list_any p x
 pub found_by : {X : Type 0} (p : X → Bool) (xs : List X) → list_any p xs ≡ true → (k : ℕ) × (x : X) × (slice_get xs k ≡ Some x) × (p x ≡ true)
 found_by p [] h = absurd (cc)
 found_by p (x ∷ xs) h = found_or p x xs (p x) refl (found_by p xs) h
+
+either : (b c : Bool) → (b ≡ true) ⊎ (c ≡ true) → (b || c) ≡ true
+either true c h = refl
+either false c (inl h) = absurd (cc)
+either false c (inr h) = h
+
+-- one that passes is found
+pub found_at : {X : Type 0} (p : X → Bool) (xs : List X) (k : ℕ) (x : X) → slice_get xs k ≡ Some x → p x ≡ true → list_any p xs ≡ true
+found_at p [] k x at passes = absurd (nothing_at k x at)
+found_at {X} p (y ∷ xs) zero x at passes = either (p y) (list_any p xs) (inl (subst (λ (z : X). p z ≡ true) (same_some x y (sym at)) passes))
+found_at p (y ∷ xs) (suc k) x at passes = either (p y) (list_any p xs) (inr (found_at p xs k x at passes))
 
 -- a key that is there already is not pushed
 pub kept_keys : {X : Type 0} (b is_new : Bool) (ks more new : List X) → is_new ≡ not b → is_new ≡ false → new ≡ (if b then ks else more) → new ≡ ks

@@ -10,12 +10,12 @@ use Rattle.gup_plain.specs.declared.note.Waiting.{Waiting}
 use Rattle.gup_script.specs.Script.{ScriptValue}
 use Rattle.gup_spec_turns.specs.Run.{RunState, run_after, turned, can_go, waiting_in}
 use Rattle.gup_core.specs.Machine.{MachineValue, Shows, TakesTurns}
-use Rattle.gup_search.specs.Orders.{told_of, is_of, told_in, tells_of}
+use Rattle.gup_spec_orders.specs.Orders.{told_of, is_of, told_in, tells_of}
 use Rattle.gup_search.specs.Search.{Puts, Tells, Stands, TakesToldTurn, AreReady, AreWaits}
 use Rattle.gup_search.specs.Graph.{IsBack}
-use Rattle.gup_search.specs.declared.told.Named.{Named}
-use Rattle.gup_search.specs.declared.told.Tell.{Tell}
-use Rattle.gup_search.specs.declared.told.Told.{Told}
+use Rattle.gup_spec_orders.specs.declared.told.Named.{Named}
+use Rattle.gup_spec_orders.specs.declared.told.Tell.{Tell}
+use Rattle.gup_spec_orders.specs.declared.told.Told.{Told}
 use Rattle.gup_search.specs.declared.graph.Step.{Step}
 use Rattle.gup_search.proofs.Lists.{at_end, at_longer, at_either, nothing_at}
 use Rattle.gup_search.proofs.Turns.{turned-append, stands_on}

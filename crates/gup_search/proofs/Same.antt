@@ -1,5 +1,5 @@
--- What `==` tells of states and of ends.
-use Rattle.std.proofs.Common.{◌≡◌, ℕ, ◌==◌, Bool, true, false, ◌&&◌, List, [], ◌∷◌, Option, refl, sym, ap, ◌∙◌, arith, rules}
+-- What `==` tells of facts, of tells, of rows and of ends.
+use Rattle.std.proofs.Common.{◌≡◌, ℕ, ◌==◌, nat_eq, Bool, true, false, ◌&&◌, List, [], ◌∷◌, Option, refl, sym, ap, subst, ◌∙◌, arith, rules}
 use Rattle.std.proofs.lemmas.Bool.Decides.{nat_tests}
 use lib.Pointwise.{pointwise}
 use mathlib.Core.Bool.{beq}
@@ -16,10 +16,12 @@ use Rattle.gup_op_waits.specs.contracts.births.BirthPartialEq.TheImpl as birth_e
 use Rattle.gup_image.specs.contracts.fact.FactPartialEq.TheImpl as fact_eq
 use Rattle.gup_plain.specs.declared.note.Waiting.{Waiting}
 use Rattle.gup_plain.specs.contracts.note.WaitingPartialEq.TheImpl as waiting_eq
-use Rattle.gup_search.specs.declared.told.Tell.{Tell}
-use Rattle.gup_search.specs.declared.told.Told.{Told}
-use Rattle.gup_search.specs.contracts.told.TellPartialEq.TheImpl as tell_eq
-use Rattle.gup_search.specs.contracts.told.ToldPartialEq.TheImpl as told_eq
+use Rattle.gup_spec_orders.specs.declared.told.Tell.{Tell}
+use Rattle.gup_spec_orders.specs.declared.told.Told.{Told}
+use Rattle.gup_spec_orders.specs.contracts.told.TellPartialEq.TheImpl as tell_eq
+use Rattle.gup_spec_orders.specs.contracts.told.ToldPartialEq.TheImpl as told_eq
+use Rattle.gup_search.specs.declared.states.Row.{Row}
+use Rattle.gup_search.specs.contracts.states.RowPartialEq.TheImpl as row_eq
 
 both : (b c : Bool) → (b && c) ≡ true → (b ≡ true) × (c ≡ true)
 both true true h = (refl, refl)
@@ -92,7 +94,7 @@ process_same p birth had s t n q p' birth' had' s' t' n' q' h =
     cc
 
 -- One variant at a time: `search` gives up at all of them at once.
-fact_same : (a b : Fact) → fact_eq.eq-value.it a b ≡ true → a ≡ b
+pub fact_same : (a b : Fact) → fact_eq.eq-value.it a b ≡ true → a ≡ b
 fact_same (facts.Zones movable normal) b h = search rules
 fact_same (facts.Frame mark frame count) b h = search rules
 fact_same (facts.Word frame word value) b h = search rules
@@ -137,7 +139,7 @@ told_same a b h = search rules
 abbrev the_tell : ℕ → Told → Tell
 the_tell name told = record { name = name; told = told }
 
-tell_same : (a b : Tell) → tell_eq.eq-value.it a b ≡ true → a ≡ b
+pub tell_same : (a b : Tell) → tell_eq.eq-value.it a b ≡ true → a ≡ b
 tell_same a b h =
     let w = both (a.name == b.name) (told_eq.eq-value.it a.told b.told) h in
     ap (λ (n : ℕ). the_tell n a.told) (alike a.name b.name w.0) ∙ ap (λ (t : Told). the_tell b.name t) (told_same a.told b.told w.1)
@@ -145,10 +147,32 @@ tell_same a b h =
 waiting_same : (a b : Option Waiting) → option_eq waiting_eq.eq-value.it a b ≡ true → a ≡ b
 waiting_same a b h = search rules
 
-pub state_same : (fs gs : List Fact) (ts us : List Tell) → (pointwise fact_eq.eq-value.it fs gs && pointwise tell_eq.eq-value.it ts us) ≡ true → (gs ≡ fs) × (us ≡ ts)
-state_same fs gs ts us h =
-    let w = both (pointwise fact_eq.eq-value.it fs gs) (pointwise tell_eq.eq-value.it ts us) h in
-    (sym (lists_same fact_eq.eq-value.it fact_same fs gs w.0), sym (lists_same tell_eq.eq-value.it tell_same ts us w.1))
+numbers_same : (ns ms : List ℕ) → pointwise nat_eq ns ms ≡ true → ms ≡ ns
+numbers_same ns ms h = sym (lists_same nat_eq alike ns ms h)
+
+itself : (n : ℕ) → (n == n) ≡ true
+itself n = grind (arith, nat_tests)
+
+one_test : (b c : Bool) → b ≡ true → c ≡ true → (b && c) ≡ true
+one_test true true one two = refl
+one_test true false one two = absurd (cc)
+one_test false c one two = absurd (cc)
+
+numbers_equal : (ns : List ℕ) → pointwise nat_eq ns ns ≡ true
+numbers_equal [] = refl
+numbers_equal (n ∷ ns) = one_test (n == n) (pointwise nat_eq ns ns) (itself n) (numbers_equal ns)
+
+-- rows are equal where their numbers are
+pub row_same : (r s : Row) → row_eq.eq-value.it r s ≡ true → (s.facts.items ≡ r.facts.items) × (s.tells.items ≡ r.tells.items)
+row_same r s h =
+    let w = both (pointwise nat_eq r.facts.items s.facts.items) (pointwise nat_eq r.tells.items s.tells.items) h in
+    (numbers_same r.facts.items s.facts.items w.0, numbers_same r.tells.items s.tells.items w.1)
+
+pub row_equal : (r s : Row) → s.facts.items ≡ r.facts.items → s.tells.items ≡ r.tells.items → row_eq.eq-value.it r s ≡ true
+row_equal r s facts tells =
+    one_test (pointwise nat_eq r.facts.items s.facts.items) (pointwise nat_eq r.tells.items s.tells.items)
+    (subst (λ (ns : List ℕ). pointwise nat_eq r.facts.items ns ≡ true) (sym facts) (numbers_equal r.facts.items))
+    (subst (λ (ns : List ℕ). pointwise nat_eq r.tells.items ns ≡ true) (sym tells) (numbers_equal r.tells.items))
 
 pub end_same : (ts us : List Tell) (ws vs : List (Option Waiting)) → (pointwise tell_eq.eq-value.it ts us && pointwise (option_eq waiting_eq.eq-value.it) ws vs) ≡ true → (us ≡ ts) × (vs ≡ ws)
 end_same ts us ws vs h =

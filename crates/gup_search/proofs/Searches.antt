@@ -1,28 +1,28 @@
 -- The search as a whole: what is closed, and what each order comes to.
-use Rattle.std.proofs.Common.{◌≡◌, ℕ, ◌+◌, ◌<◌, ◌≤◌, ◌⊎◌, inl, inr, Bool, true, false, List, [], ◌∷◌, ◌++◌, Option, Some, None, length, get_or, slice_get, refl, sym, ap, subst, ◌∙◌, arith, append_assoc, append-nil}
+use Rattle.std.proofs.Common.{◌≡◌, ℕ, ◌+◌, ◌<◌, ◌≤◌, ◌⊎◌, inl, inr, Bool, true, false, if◌then◌else◌, List, [], ◌∷◌, ◌++◌, Option, Some, None, length, get_or, slice_get, refl, sym, ap, subst, ◌∙◌, arith, append_assoc, append-nil}
 use Rattle.std.proofs.lemmas.Option.{slice_get_within, slice_get_cases}
+use Rattle.std.proofs.Math.ListN.{length-append}
 use Rattle.gup_plain.specs.declared.note.Waiting.{Waiting}
 use Rattle.gup_script.specs.Script.{ScriptValue}
 use Rattle.gup_spec_turns.specs.Run.{RunState, run_start, turned, can_go, waiting_in}
 use Rattle.gup_core.specs.Machine.{MachineValue, Shows}
 use Rattle.gup_core.specs.Images.{IsImage}
-use Rattle.gup_search.specs.Orders.{Goes, IsOver, IsOrder, IsOutcome, AreOfOrders, AreOfAllOrders, beginning, setup, tells_of}
+use Rattle.gup_spec_orders.specs.Orders.{Goes, IsOver, IsOrder, IsOutcome, AreOfOrders, AreOfAllOrders, beginning, setup, tells_of}
 use Rattle.gup_search.specs.Search.{Stands, AreReady, AreWaits}
-use Rattle.gup_search.specs.Graph.{IsCovered, IsLed, IsGraph, Grows, LeadsBy, IsAt, CanGoAt}
+use Rattle.gup_search.specs.Graph.{IsCovered, IsLed, CanBeReached, AreReached, IsGraph, Grows, LeadsBy, IsAt, CanGoAt}
+use Rattle.gup_search.specs.States.{State, Has}
+use Rattle.gup_search.specs.Reach.{AreReachable, ReachesStates, AreAll, ReachesAllStates}
 use Rattle.gup_search.specs.Ends.{HasEnd, IsEnds, AddsOutcome}
 use Rattle.gup_search.specs.Explored.{EndsIn, IsClosed, Keeps, AreFound, IsSearch}
-use Rattle.gup_search.specs.declared.told.Named.{Named}
-use Rattle.gup_search.specs.declared.told.Tell.{Tell}
+use Rattle.gup_spec_orders.specs.declared.told.Named.{Named}
+use Rattle.gup_spec_orders.specs.declared.told.Tell.{Tell}
 use Rattle.gup_search.specs.declared.graph.Graph.{Graph}
-use Rattle.gup_search.specs.declared.graph.State.{State}
-use Rattle.gup_search.specs.declared.search.Outcome.{Outcome}
+use Rattle.gup_spec_orders.specs.declared.told.Outcome.{Outcome}
 use Rattle.gup_search.specs.declared.ends.Ends.{Ends}
-use Rattle.gup_search.proofs.Lists.{at_longer, at_either, nothing_at, same_at}
+use Rattle.gup_search.proofs.Lists.{at_longer, at_either, nothing_at, same_at, true_or_false}
 use Rattle.gup_search.proofs.Turns.{turned-append}
-use Rattle.gup_search.proofs.Graphs.{AreExact, stands_at, covered_on}
-
-true_or_false : (b : Bool) → b ≡ true → b ≡ false → ⊥
-true_or_false b one two = cc
+use Rattle.gup_search.proofs.Numbers.{different_more}
+use Rattle.gup_search.proofs.Graphs.{AreExact, stands_at, covered_on, reached_can}
 
 false_unless : (b : Bool) → (b ≡ true → ⊥) → b ≡ false
 false_unless true never = absurd (never refl)
@@ -53,21 +53,21 @@ outcome_of script named order m tells waits outcome stands are told waiting =
     }
 
 -- the orders that the state covers end in the outcome that was added
-pub ends_added : (script : ScriptValue) (named : List Named) (m : MachineValue) (state : State) (tells : List Tell) (waits : List (Option Waiting)) (outcomes : List Outcome) → AreExact → m.script ≡ script → IsImage m state.facts.items → AreWaits m waits → tells ≡ state.tells.items → HasEnd outcomes tells waits → EndsIn script named outcomes state
+pub ends_added : (script : ScriptValue) (named : List Named) (m : MachineValue) (state : State) (tells : List Tell) (waits : List (Option Waiting)) (outcomes : List Outcome) → AreExact → m.script ≡ script → IsImage m state.facts → AreWaits m waits → tells ≡ state.tells → HasEnd outcomes tells waits → EndsIn script named outcomes state
 ends_added script named m state tells waits outcomes exact same image are copied found order over covers =
-    let stands = stands_at script named order m state.facts.items state.tells.items exact same image covers in
-    (found.0, found.1, found.2, outcome_of script named order m state.tells.items waits found.1 stands are (found.3 ∙ copied) found.4)
+    let stands = stands_at script named order m state.facts state.tells exact same image covers in
+    (found.0, found.1, found.2, outcome_of script named order m state.tells waits found.1 stands are (found.3 ∙ copied) found.4)
 
 -- the outcome that was added happens
-pub happen_added : (script : ScriptValue) (behind : Bool) (named : List Named) (m : MachineValue) (state : State) (old new : List Outcome) (outcome : Outcome) → AreExact → m.script ≡ script → IsImage m state.facts.items → AreReady m [] → AreWaits m outcome.waits.items → outcome.tells.items ≡ state.tells.items → IsLed script behind named outcome.path.items state.facts.items state.tells.items → AddsOutcome old new outcome → AreOfOrders script behind named old → AreOfOrders script behind named new
+pub happen_added : (script : ScriptValue) (behind : Bool) (named : List Named) (m : MachineValue) (state : State) (old new : List Outcome) (outcome : Outcome) → AreExact → m.script ≡ script → IsImage m state.facts → AreReady m [] → AreWaits m outcome.waits.items → outcome.tells.items ≡ state.tells → IsLed script behind named outcome.path.items state.facts state.tells → AddsOutcome old new outcome → AreOfOrders script behind named old → AreOfOrders script behind named new
 happen_added script behind named m state old new outcome exact same image ready are copied led adds h =
     let order : List ℕ = setup script behind ++ outcome.path.items in
-    let stands = stands_at script named order m state.facts.items state.tells.items exact same image led.covers in
+    let stands = stands_at script named order m state.facts state.tells exact same image led.covers in
     let over : IsOver script (turned script (beginning script behind) outcome.path.items) =
     subst (λ (r : RunState). IsOver script r) (turned-append script (run_start script) (setup script behind) outcome.path.items)
     (over_if_none script m (turned script (run_start script) order) same ready stands.shown) in
     let here : IsOrder script behind outcome.path.items × IsOutcome script named order outcome =
-    (record { goes = led.goes; over = over }, outcome_of script named order m state.tells.items outcome.waits.items outcome stands are copied refl) in
+    (record { goes = led.goes; over = over }, outcome_of script named order m state.tells outcome.waits.items outcome stands are copied refl) in
     elim adds.items [
       | inl stay ↦ subst (λ (os : List Outcome). AreOfOrders script behind named os) (sym stay) h
       | inr more ↦ subst (λ (os : List Outcome). AreOfOrders script behind named os) (sym more) (happen_pushed script behind named old outcome here h)
@@ -107,50 +107,50 @@ past_it : (k i n : ℕ) → k < i → i ≤ n → n ≤ k → ⊥
 past_it k i n below over past = omega arith
 
 -- The state with this number is expanded.
-pub search_on : (script : ScriptValue) (behind : Bool) (named : List Named) (limit : ℕ) (old new : Graph) (before after : Ends) (i : ℕ) (state : State) → slice_get old.states.keys i ≡ Some state → IsSearch script behind named limit old before i → IsGraph script behind named limit new → AreFound script behind named after → Grows old new → Keeps before.outcomes.items after.outcomes.items → (new.left_out ≡ false → IsClosed script named new after.outcomes.items state) → IsSearch script behind named limit new after (i + 1)
+pub search_on : (script : ScriptValue) (behind : Bool) (named : List Named) (limit : ℕ) (old new : Graph) (before after : Ends) (i : ℕ) (state : State) → slice_get old.states i ≡ Some state → IsSearch script behind named limit old before i → IsGraph script behind named limit new → AreFound script behind named after → Grows old new → Keeps before.outcomes.items after.outcomes.items → (new.left_out ≡ false → IsClosed script named new after.outcomes.items state) → IsSearch script behind named limit new after (i + 1)
 search_on script behind named limit old new before after i state at search graph found grows keeps here =
     record {
       graph = graph;
       found = found;
-      over = one_further i (length new.states.keys) (slice_get_within new.states.keys i state (grows.states i state at));
+      over = one_further i (length new.states) (slice_get_within new.states i state (grows.states i state at));
       closed = λ none k other below there. closed_at none k other (below_or_at k i below) there;
     }
   where
-    back_at : (k : ℕ) (other : State) → k < i → slice_get new.states.keys k ≡ Some other → slice_get old.states.keys k ≡ Some other
-    back_at k other below there = was_at (slice_get_cases old.states.keys k).1
+    back_at : (k : ℕ) (other : State) → k < i → slice_get new.states k ≡ Some other → slice_get old.states k ≡ Some other
+    back_at k other below there = was_at (slice_get_cases old.states k).1
       where
-        was_at : ((x : State) × (k < length old.states.keys) × (slice_get old.states.keys k ≡ Some x) × (get_or old.states.keys k x ≡ x)) ⊎ ((length old.states.keys ≤ k) × (slice_get old.states.keys k ≡ None)) → slice_get old.states.keys k ≡ Some other
-        was_at (inl w) = w.2 ∙ ap (λ (s : State). Some s) (same_at new.states.keys k w.0 other (grows.states k w.0 w.2) there)
-        was_at (inr w) = absurd (past_it k i (length old.states.keys) below search.over w.0)
+        was_at : ((x : State) × (k < length old.states) × (slice_get old.states k ≡ Some x) × (get_or old.states k x ≡ x)) ⊎ ((length old.states ≤ k) × (slice_get old.states k ≡ None)) → slice_get old.states k ≡ Some other
+        was_at (inl w) = w.2 ∙ ap (λ (s : State). Some s) (same_at new.states k w.0 other (grows.states k w.0 w.2) there)
+        was_at (inr w) = absurd (past_it k i (length old.states) below search.over w.0)
 
-    closed_at : new.left_out ≡ false → (k : ℕ) (other : State) → (k < i) ⊎ (k ≡ i) → slice_get new.states.keys k ≡ Some other → IsClosed script named new after.outcomes.items other
+    closed_at : new.left_out ≡ false → (k : ℕ) (other : State) → (k < i) ⊎ (k ≡ i) → slice_get new.states k ≡ Some other → IsClosed script named new after.outcomes.items other
     closed_at none k other (inl below) there =
         closed_grown script named old new before.outcomes.items after.outcomes.items other grows keeps
         (search.closed (grows.left none) k other below (back_at k other below there))
     closed_at none k other (inr is) there =
         subst (λ (s : State). IsClosed script named new after.outcomes.items s)
-        (same_at new.states.keys i state other (grows.states i state at) (subst (λ (j : ℕ). slice_get new.states.keys j ≡ Some other) is there))
+        (same_at new.states i state other (grows.states i state at) (subst (λ (j : ℕ). slice_get new.states j ≡ Some other) is there))
         (here none)
 
 -- where nobody can go, the state leads nowhere
-pub closed_over : (script : ScriptValue) (named : List Named) (g : Graph) (m : MachineValue) (state : State) (outcomes : List Outcome) → AreExact → m.script ≡ script → IsImage m state.facts.items → AreReady m [] → EndsIn script named outcomes state → IsClosed script named g outcomes state
+pub closed_over : (script : ScriptValue) (named : List Named) (g : Graph) (m : MachineValue) (state : State) (outcomes : List Outcome) → AreExact → m.script ≡ script → IsImage m state.facts → AreReady m [] → EndsIn script named outcomes state → IsClosed script named g outcomes state
 closed_over script named g m state outcomes exact same image ready ends =
     record {
       leads =
           λ a order below can covers.
-          let stands = stands_at script named order m state.facts.items state.tells.items exact same image covers in
+          let stands = stands_at script named order m state.facts state.tells exact same image covers in
           let over = over_if_none script m (turned script (run_start script) order) same ready stands.shown in
           absurd (true_or_false (can_go script (turned script (run_start script) order) a) can (over a below));
       ends = ends;
     }
 
 -- where somebody can, no order ends there
-pub closed_led : (script : ScriptValue) (named : List Named) (g : Graph) (m : MachineValue) (state : State) (outcomes : List Outcome) (ready : List ℕ) (first : ℕ) → AreExact → m.script ≡ script → IsImage m state.facts.items → AreReady m ready → slice_get ready 0 ≡ Some first → ((k a : ℕ) → slice_get ready k ≡ Some a → LeadsBy script named g state a) → IsClosed script named g outcomes state
+pub closed_led : (script : ScriptValue) (named : List Named) (g : Graph) (m : MachineValue) (state : State) (outcomes : List Outcome) (ready : List ℕ) (first : ℕ) → AreExact → m.script ≡ script → IsImage m state.facts → AreReady m ready → slice_get ready 0 ≡ Some first → ((k a : ℕ) → slice_get ready k ≡ Some a → LeadsBy script named g state a) → IsClosed script named g outcomes state
 closed_led script named g m state outcomes ready first exact same image are there leads =
     record {
       leads =
           λ a order below can covers.
-          let stands = stands_at script named order m state.facts.items state.tells.items exact same image covers in
+          let stands = stands_at script named order m state.facts state.tells exact same image covers in
           let r : RunState = turned script (run_start script) order in
           let w =
           are.all a r (subst (λ (s : ScriptValue). a < length s.actors) (sym same) below) stands.shown
@@ -158,7 +158,7 @@ closed_led script named g m state outcomes ready first exact same image are ther
           leads w.0 a w.1 order covers;
       ends =
           λ order over covers.
-          let stands = stands_at script named order m state.facts.items state.tells.items exact same image covers in
+          let stands = stands_at script named order m state.facts state.tells exact same image covers in
           let r : RunState = turned script (run_start script) order in
           let can = subst (λ (s : ScriptValue). can_go s r first ≡ true) same (are.can 0 first there r stands.shown) in
           absurd (true_or_false (can_go script r first) can (over first (subst (λ (s : ScriptValue). first < length s.actors) same (are.there 0 first there))));
@@ -172,7 +172,7 @@ can_go_at script states i m state ready k a exact at is are there =
       can =
           λ n r other shown.
           subst (λ (s : ScriptValue). can_go s r a ≡ true) is.same
-          (are.can k a there r (exact m n state.facts.items r (is.same ∙ sym other.same) (is.image state at) (other.image state at) shown));
+          (are.can k a there r (exact m n state.facts r (is.same ∙ sym other.same) (is.image state at) (other.image state at) shown));
     }
 
 -- ---- the whole
@@ -194,23 +194,70 @@ within_all : (k n i : ℕ) → k < n → n ≤ i → k < i
 within_all k n i below most = omega arith
 
 -- Every way to go from an order that is covered leads to one that is.
-covered_all : (script : ScriptValue) (named : List Named) (g : Graph) (outcomes : List Outcome) → ((k : ℕ) (state : State) → slice_get g.states.keys k ≡ Some state → IsClosed script named g outcomes state) → (path order : List ℕ) → Goes script (turned script (run_start script) order) path → IsCovered script named order g.states.keys → IsCovered script named (order ++ path) g.states.keys
-covered_all script named g outcomes closed [] order goes h = subst (λ (o : List ℕ). IsCovered script named o g.states.keys) (sym (append-nil order)) h
+covered_all : (script : ScriptValue) (named : List Named) (g : Graph) (outcomes : List Outcome) → ((k : ℕ) (state : State) → slice_get g.states k ≡ Some state → IsClosed script named g outcomes state) → (path order : List ℕ) → Goes script (turned script (run_start script) order) path → IsCovered script named order g.states → IsCovered script named (order ++ path) g.states
+covered_all script named g outcomes closed [] order goes h = subst (λ (o : List ℕ). IsCovered script named o g.states) (sym (append-nil order)) h
 covered_all script named g outcomes closed (a ∷ path) order goes h =
     let next = (closed h.0 h.1 h.2).leads a order goes.0 goes.1 h.3 in
-    subst (λ (o : List ℕ). IsCovered script named o g.states.keys) (append_assoc order (a ∷ []) path)
+    subst (λ (o : List ℕ). IsCovered script named o g.states) (append_assoc order (a ∷ []) path)
     (
     covered_all script named g outcomes closed path (order ++ a ∷ [])
     (subst (λ (r : RunState). Goes script r path) (sym (turned-append script (run_start script) order (a ∷ []))) goes.2)
     next
     )
 
--- Unless one was left out, every order comes to an outcome.
-pub all_found : (script : ScriptValue) (behind : Bool) (named : List Named) (limit : ℕ) (g : Graph) (ends : Ends) (i : ℕ) → IsSearch script behind named limit g ends i → length g.states.keys ≤ i → g.left_out ≡ false → AreOfAllOrders script behind named ends.outcomes.items
+all_closed : (script : ScriptValue) (behind : Bool) (named : List Named) (limit : ℕ) (g : Graph) (ends : Ends) (i : ℕ) → IsSearch script behind named limit g ends i → length g.states ≤ i → g.left_out ≡ false → (k : ℕ) (state : State) → slice_get g.states k ≡ Some state → IsClosed script named g ends.outcomes.items state
+all_closed script behind named limit g ends i search most none k state there =
+    search.closed none k state (within_all k (length g.states) i (slice_get_within g.states k state there) most) there
+
+-- Unless one was left out, every path that can be gone leads to one of the states,
+pub all_covered : (script : ScriptValue) (behind : Bool) (named : List Named) (limit : ℕ) (g : Graph) (ends : Ends) (i : ℕ) → IsSearch script behind named limit g ends i → length g.states ≤ i → g.left_out ≡ false → AreAll script behind named g.states
+all_covered script behind named limit g ends i search most none path goes =
+    covered_all script named g ends.outcomes.items (all_closed script behind named limit g ends i search most none) path (setup script behind) goes (search.graph.begun none)
+
+-- and every order comes to an outcome.
+pub all_found : (script : ScriptValue) (behind : Bool) (named : List Named) (limit : ℕ) (g : Graph) (ends : Ends) (i : ℕ) → IsSearch script behind named limit g ends i → length g.states ≤ i → g.left_out ≡ false → AreOfAllOrders script behind named ends.outcomes.items
 all_found script behind named limit g ends i search most none order is =
-    let closed : (k : ℕ) (state : State) → slice_get g.states.keys k ≡ Some state → IsClosed script named g ends.outcomes.items state =
-    λ k state there. search.closed none k state (within_all k (length g.states.keys) i (slice_get_within g.states.keys k state there) most) there in
-    let covered = covered_all script named g ends.outcomes.items closed order (setup script behind) is.goes (search.graph.begun none) in
-    (closed covered.0 covered.1 covered.2).ends (setup script behind ++ order)
+    let covered = all_covered script behind named limit g ends i search most none order is.goes in
+    (all_closed script behind named limit g ends i search most none covered.0 covered.1 covered.2).ends (setup script behind ++ order)
     (subst (λ (r : RunState). IsOver script r) (sym (turned-append script (run_start script) (setup script behind) order)) is.over)
     covered.3
+
+-- ---- how many states there are
+
+reachable : (script : ScriptValue) (behind : Bool) (named : List Named) (limit : ℕ) (g : Graph) → AreReached script behind named limit g → AreReachable script behind named g.states
+reachable script behind named limit g h =
+    record { different = h.different; reached = λ k state at. reached_can script behind named g.steps.items k state (h.reached k state at) }
+
+-- with the one that was left out
+reachable_more : (script : ScriptValue) (behind : Bool) (named : List Named) (states : List State) (state : State) → (Has states state → ⊥) → CanBeReached script behind named state → AreReachable script behind named states → AreReachable script behind named (states ++ state ∷ [])
+reachable_more script behind named states state fresh can h =
+    record {
+      different = different_more states state (λ k at. fresh (k, at)) h.different;
+      reached = λ k other at. reached_at k other (at_either states state k other at);
+    }
+  where
+    reached_at : (k : ℕ) (other : State) → (slice_get states k ≡ Some other) ⊎ ((k ≡ length states) × (other ≡ state)) → CanBeReached script behind named other
+    reached_at k other (inl before) = h.reached k other before
+    reached_at k other (inr last) = subst (λ (s : State). CanBeReached script behind named s) (sym last.1) can
+
+states_by : (script : ScriptValue) (behind : Bool) (named : List Named) (limit : ℕ) (g : Graph) → AreReached script behind named limit g → (left : Bool) → g.left_out ≡ left → ReachesStates script behind named (if left then limit + 1 else length g.states)
+states_by script behind named limit g h true is =
+    let more = h.more is in (
+      g.states ++ more.0 ∷ [],
+      length-append g.states (more.0 ∷ []) ∙ ap (λ (n : ℕ). n + 1) (h.full is),
+      reachable_more script behind named g.states more.0 more.1 more.2 (reachable script behind named limit g h),
+    )
+states_by script behind named limit g h false is = (g.states, refl, reachable script behind named limit g h)
+
+-- There are so many states, and one more where one was left out.
+pub states_reached : (script : ScriptValue) (behind : Bool) (named : List Named) (limit : ℕ) (g : Graph) → IsGraph script behind named limit g → ReachesStates script behind named (if g.left_out then limit + 1 else length g.states)
+states_reached script behind named limit g graph = states_by script behind named limit g graph.states g.left_out refl
+
+-- Where none was, these are all.
+pub all_reached : (script : ScriptValue) (behind : Bool) (named : List Named) (limit : ℕ) (g : Graph) (ends : Ends) (i : ℕ) → IsSearch script behind named limit g ends i → length g.states ≤ i → g.left_out ≡ false → ReachesAllStates script behind named (length g.states)
+all_reached script behind named limit g ends i search most none = (
+  g.states,
+  refl,
+  reachable script behind named limit g search.graph.states,
+  all_covered script behind named limit g ends i search most none,
+)

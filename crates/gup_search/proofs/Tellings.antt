@@ -1,17 +1,18 @@
 -- What is told, and where it is put in.
-use Rattle.std.proofs.Common.{◌≡◌, ℕ, ◌<◌, ◌==◌, Bool, true, false, if◌then◌else◌, List, [], ◌∷◌, ◌++◌, Option, Some, None, take, drop, map, filter, refl, sym, ap, subst, ◌∙◌, arith, append_assoc, append-nil}
+use Rattle.std.proofs.Common.{◌≡◌, ℕ, ◌-◌, ◌<◌, ◌≤◌, ◌==◌, length, get_or, zero, suc, slice_get, Bool, true, false, if◌then◌else◌, List, [], ◌∷◌, ◌++◌, Option, Some, None, take, drop, map, filter, refl, sym, ap, subst, ◌∙◌, arith, append_assoc, append-nil}
 use Rattle.std.proofs.lemmas.Bool.Decides.{nat_tests}
 use Rattle.std.proofs.lemmas.List.{map-append, take-append-drop}
-use Rattle.std.proofs.lemmas.List.Elements.{filter-append, All-head, All-tail}
+use Rattle.std.proofs.lemmas.List.Elements.{filter-append, All-nil, All-cons, All-head, All-tail}
 use Rattle.std.specs.List.{All, cons_option}
 use Rattle.gup_plain.specs.Note.{NoteValue}
 use Rattle.gup_plain.specs.declared.note.What.{What}
 use Rattle.gup_spec_journal.specs.Follows.{note_of, notes_of_turn}
-use Rattle.gup_search.specs.Orders.{told_of, is_of, told_in, tells_of}
-use Rattle.gup_search.specs.Search.{Puts, Tells}
-use Rattle.gup_search.specs.declared.told.Named.{Named}
-use Rattle.gup_search.specs.declared.told.Tell.{Tell}
-use Rattle.gup_search.specs.declared.told.Told.{Told}
+use Rattle.gup_spec_orders.specs.Orders.{told_of, is_of, told_in, tells_of}
+use Rattle.gup_search.specs.Search.{GoUp, Puts, Tells}
+use Rattle.gup_spec_orders.specs.declared.told.Named.{Named}
+use Rattle.gup_spec_orders.specs.declared.told.Tell.{Tell}
+use Rattle.gup_spec_orders.specs.declared.told.Told.{Told}
+use Rattle.gup_search.proofs.Lists.{nothing_at, same_some, get_at}
 
 -- what a list tells and then another
 pub tells_of-append : (xs ys : List Tell) (k : ℕ) → tells_of (xs ++ ys) k ≡ tells_of xs k ++ tells_of ys k
@@ -59,6 +60,50 @@ puts_at tells at tell all k =
     ∙ ap (λ (ts : List Told). front ++ ts) (tells_of-cons tell (drop at tells) k)
     ∙ put_between (tell.name == k) tell.told front back none
     ∙ ap (λ (ts : List Told). ts ++ (if tell.name == k then tell.told ∷ [] else [])) (sym (tells_of-append (take at tells) (drop at tells) k) ∙ ap (λ (ts : List Tell). tells_of ts k) (take-append-drop at tells))
+
+-- ---- their order
+
+raised : (from name end : ℕ) (tells : List Tell) → GoUp from end tells → All (λ (tell : Tell). name < tell.name) tells → GoUp name end tells
+raised from name end [] h all = tt
+raised from name end (tell ∷ tells) h all =
+    let above : name < tell.name = All-head (λ (t : Tell). name < t.name) tell tells all in
+    (omega arith, h.1, h.2)
+
+-- put in there, the places go up as before
+pub up_with : (from end at : ℕ) (tells : List Tell) (tell : Tell) → from ≤ tell.name → tell.name < end → All (λ (t : Tell). t.name ≤ tell.name) (take at tells) → All (λ (t : Tell). tell.name < t.name) (drop at tells) → GoUp from end tells → GoUp from end (take at tells ++ tell ∷ drop at tells)
+up_with from end zero tells tell least below before behind h = (least, below, raised from tell.name end tells h behind)
+up_with from end (suc at) [] tell least below before behind h = (least, below, tt)
+up_with from end (suc at) (t ∷ tells) tell least below before behind h = (
+  h.0,
+  h.1,
+  up_with t.name end at tells tell (All-head (λ (u : Tell). u.name ≤ tell.name) t (take at tells) before) below (All-tail (λ (u : Tell). u.name ≤ tell.name) t (take at tells) before) behind h.2,
+)
+
+from_on : (from end k : ℕ) (tells : List Tell) (t : Tell) → GoUp from end tells → slice_get tells k ≡ Some t → from ≤ t.name
+from_on from end k [] t h at = absurd (nothing_at k t at)
+from_on from end zero (u ∷ tells) t h at = subst (λ (v : Tell). from ≤ v.name) (same_some u t at) h.0
+from_on from end (suc k) (u ∷ tells) t h at =
+    let first : from ≤ u.name = h.0 in
+    let rest : u.name ≤ t.name = from_on u.name end k tells t h.2 at in
+    omega arith
+
+-- up to a tell of an operation up to this one there are none of later ones
+pub all_before : (from end k name : ℕ) (tells : List Tell) (t : Tell) → GoUp from end tells → slice_get tells k ≡ Some t → t.name ≤ name → All (λ (u : Tell). u.name ≤ name) (take (suc k) tells)
+all_before from end k name [] t h at most = absurd (nothing_at k t at)
+all_before from end zero name (u ∷ tells) t h at most =
+    All-cons (λ (v : Tell). v.name ≤ name) u [] (subst (λ (v : Tell). v.name ≤ name) (sym (same_some u t at)) most) (All-nil (λ (v : Tell). v.name ≤ name))
+all_before from end (suc k) name (u ∷ tells) t h at most =
+    let first : u.name ≤ t.name = from_on u.name end k tells t h.2 at in
+    All-cons (λ (v : Tell). v.name ≤ name) u (take (suc k) tells) (omega arith) (all_before u.name end k name tells t h.2 at most)
+
+-- so it is at the last of these places
+pub before_last : (from end at name : ℕ) (tells : List Tell) (d : Tell) → 0 < at → at ≤ length tells → (get_or tells (at - 1) d).name ≤ name → GoUp from end tells → All (λ (u : Tell). u.name ≤ name) (take at tells)
+before_last from end at name tells d some within most h =
+    subst (λ (n : ℕ). All (λ (u : Tell). u.name ≤ name) (take n tells)) (one_less at some)
+    (all_before from end (at - 1) name tells (get_or tells (at - 1) d) h (get_at tells (at - 1) d (omega arith)) most)
+  where
+    one_less : (n : ℕ) → 0 < n → suc (n - 1) ≡ n
+    one_less n some = omega arith
 
 -- ---- notes
 

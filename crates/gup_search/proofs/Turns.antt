@@ -13,11 +13,11 @@ use Rattle.gup_spec_journal.specs.Follows.{notes_of_turn}
 use Rattle.gup_spec_journal.specs.Order.{journal_of}
 use Rattle.gup_spec_turns.specs.Run.{RunState, run_start, run_after, turned, core_turn_in, can_go, is_ready, waiting_in}
 use Rattle.gup_core.specs.Machine.{MachineValue, Shows, counted}
-use Rattle.gup_search.specs.Orders.{Goes, turns_in, journal_in, told_in}
+use Rattle.gup_spec_orders.specs.Orders.{Goes, turns_in, journal_in, told_in}
 use Rattle.gup_search.specs.Search.{AreTold, Tells, Stands, TakesToldTurn}
-use Rattle.gup_search.specs.declared.told.Named.{Named}
-use Rattle.gup_search.specs.declared.told.Tell.{Tell}
-use Rattle.gup_search.specs.declared.told.Told.{Told}
+use Rattle.gup_spec_orders.specs.declared.told.Named.{Named}
+use Rattle.gup_spec_orders.specs.declared.told.Tell.{Tell}
+use Rattle.gup_spec_orders.specs.declared.told.Told.{Told}
 use Rattle.gup_search.proofs.Tellings.{told_in-append, told_in-number}
 
 pub turned-append : (script : ScriptValue) (r : RunState) (xs ys : List ℕ) → turned script r (xs ++ ys) ≡ turned script (turned script r xs) ys
@@ -63,6 +63,7 @@ stands_on script named order m n a old new kept taken h =
           subst (λ (s : RunState). Shows n s) (sym (turned-append script (run_start script) order (a ∷ [])))
           (subst (λ (s : ScriptValue). Shows n (run_after s r a)) h.same turn.shown);
       told = told_on script named order a number old new h.told (subst (λ (notes : List NoteValue). Tells named old new notes) said taken.tells);
+      in_order = taken.in_order h.in_order;
     }
 
 -- ---- who can go

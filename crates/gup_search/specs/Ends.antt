@@ -1,8 +1,8 @@
 -- The outcomes that are known.
 use Rattle.std.specs.Prelude.{◌≡◌, ℕ, ◌++◌, ◌⊎◌, List, [], ◌∷◌, Option, Some, slice_get}
 use Rattle.gup_plain.specs.declared.note.Waiting.{Waiting}
-use Rattle.gup_search.specs.declared.told.Tell.{Tell}
-use Rattle.gup_search.specs.declared.search.Outcome.{Outcome}
+use Rattle.gup_spec_orders.specs.declared.told.Tell.{Tell}
+use Rattle.gup_spec_orders.specs.declared.told.Outcome.{Outcome}
 use Rattle.gup_search.specs.declared.ends.Ends.{Ends}
 use Rattle.gup_search.specs.declared.ends.End.{End}
 

@@ -2,13 +2,13 @@
 use Rattle.std.specs.Prelude.{◌≡◌, ℕ, ◌<◌, ◌≤◌, Bool, false, List, length, Some, slice_get}
 use Rattle.gup_script.specs.Script.{ScriptValue}
 use Rattle.gup_spec_turns.specs.Run.{turned, run_start}
-use Rattle.gup_search.specs.Orders.{IsOver, IsOutcome, AreOfOrders}
+use Rattle.gup_spec_orders.specs.Orders.{IsOver, IsOutcome, AreOfOrders}
 use Rattle.gup_search.specs.Graph.{Covers, IsGraph, Leads}
 use Rattle.gup_search.specs.Ends.{IsEnds}
-use Rattle.gup_search.specs.declared.told.Named.{Named}
+use Rattle.gup_search.specs.States.{State}
+use Rattle.gup_spec_orders.specs.declared.told.Named.{Named}
 use Rattle.gup_search.specs.declared.graph.Graph.{Graph}
-use Rattle.gup_search.specs.declared.graph.State.{State}
-use Rattle.gup_search.specs.declared.search.Outcome.{Outcome}
+use Rattle.gup_spec_orders.specs.declared.told.Outcome.{Outcome}
 use Rattle.gup_search.specs.declared.ends.Ends.{Ends}
 
 -- one of the outcomes is that of the order
@@ -20,7 +20,7 @@ HasOutcome script named order outcomes =
 abbrev pub EndsIn : ScriptValue → List Named → List Outcome → State → Type 0
 EndsIn script named outcomes state =
     (order : List ℕ) → IsOver script (turned script (run_start script) order)
-    → Covers script named order state.facts.items state.tells.items → HasOutcome script named order outcomes
+    → Covers script named order state.facts state.tells → HasOutcome script named order outcomes
 
 -- all that follows from the state is there
 pub record IsClosed (script : ScriptValue) (named : List Named) (g : Graph) (outcomes : List Outcome) (state : State) : Type 0 where
@@ -40,5 +40,5 @@ pub record AreFound (script : ScriptValue) (behind : Bool) (named : List Named) 
 pub record IsSearch (script : ScriptValue) (behind : Bool) (named : List Named) (limit : ℕ) (g : Graph) (e : Ends) (i : ℕ) : Type 0 where
   pub graph : IsGraph script behind named limit g
   pub found : AreFound script behind named e
-  pub over : i ≤ length g.states.keys
-  pub closed : g.left_out ≡ false → (k : ℕ) (state : State) → k < i → slice_get g.states.keys k ≡ Some state → IsClosed script named g e.outcomes.items state
+  pub over : i ≤ length g.states
+  pub closed : g.left_out ≡ false → (k : ℕ) (state : State) → k < i → slice_get g.states k ≡ Some state → IsClosed script named g e.outcomes.items state

@@ -2,10 +2,9 @@
 ghost use Rattle.std.specs.Prelude.{◌≡◌, [], IfOk, OnOk};
 ghost use Rattle.gup_search.specs.Ends.{IsEnds, AddsOutcome};
 
-use crate::search::Outcome;
-use crate::told::Tell;
 use gup_base::{ActorNo, NoMemory};
 use gup_plain::Waiting;
+use gup_spec_orders::{Outcome, Tell};
 use indexmap::IndexSet;
 use std::alloc::Global;
 

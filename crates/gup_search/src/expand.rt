@@ -3,16 +3,15 @@ ghost use Rattle.std.specs.Prelude.{◌≡◌, ℕ, [], ◌∷◌, ◌<◌, ◌+
 ghost use Rattle.gup_search.specs.Search.{AreReady};
 ghost use Rattle.gup_search.specs.Graph.{IsGraph, IsAt, CanGoAt, IsSteppedBy};
 ghost use Rattle.gup_search.specs.Explored.{IsSearch, AreFound, Keeps, EndsIn};
-ghost use Rattle.gup_search.specs.declared.graph.State.{State as StateValue};
+ghost use Rattle.gup_search.specs.States.{State};
 
 use crate::ends::Ends;
-use crate::graph::{Graph, State, Step};
+use crate::graph::{Graph, Step};
 use crate::replay::{ready, replayed, setup, tell_turn, tell_turns, waits};
-use crate::search::Outcome;
-use crate::told::Named;
 use gup_base::{ActorNo, NoMemory};
 use gup_core::{Machine, images_are_exact, images_are_of_states};
 use gup_script::Script;
+use gup_spec_orders::{Named, Outcome};
 use std::alloc::Global;
 
 /// What is explored: the orders of this script, from the start or behind the written turns, up to so many states.
@@ -34,7 +33,7 @@ pub(crate) fn begin(alloc: Global, task: &Task) -> Result<Graph, NoMemory>
     tell_turns(&mut machine, task.named, written, &mut tells)?;
     let facts = machine.image(alloc)?;
     let mut graph = Graph::new(alloc);
-    graph.add(State { facts, tells }, None, task.limit)?;
+    graph.add(alloc, facts.as_slice(), tells.as_slice(), None, task.limit)?;
     Ok(graph)
 }
 
@@ -47,7 +46,7 @@ pub(crate) fn expand(
     i: usize,
 ) -> Result<(), NoMemory>
     requires search { IsSearch task.now.script.now task.now.behind task.now.named.now task.now.limit graph.old ends.old i }
-    requires there { i < length graph.old.states.keys }
+    requires there { i < length graph.old.states }
     ensures { OnOk result (IsSearch task.now.script.now task.now.behind task.now.named.now task.now.limit graph.new ends.new (i + 1)) }
 {
     images_are_exact();
@@ -65,8 +64,8 @@ pub(crate) fn expand(
 // A machine with the image of the state with this number: it has taken the turns of the path to it.
 fn machine_at(alloc: Global, task: &Task, graph: &Graph, i: usize) -> Result<Machine, NoMemory>
     requires graph { IsGraph task.now.script.now task.now.behind task.now.named.now task.now.limit graph.now }
-    requires there { i < length graph.now.states.keys }
-    ensures { IfOk result (IsAt task.now.script.now graph.now.states.keys i) }
+    requires there { i < length graph.now.states }
+    ensures { IfOk result (IsAt task.now.script.now graph.now.states i) }
 {
     images_are_of_states();
     let _actors = task.script.actors();
@@ -86,18 +85,21 @@ fn step(
     actor: ActorNo,
 ) -> Result<(), NoMemory>
     requires graph { IsGraph task.now.script.now task.now.behind task.now.named.now task.now.limit graph.old }
-    requires there { i < length graph.old.states.keys }
-    requires at { IsAt task.now.script.now graph.old.states.keys i machine }
-    requires can { CanGoAt task.now.script.now graph.old.states.keys i actor }
+    requires there { i < length graph.old.states }
+    requires at { IsAt task.now.script.now graph.old.states i machine }
+    requires can { CanGoAt task.now.script.now graph.old.states i actor }
     ensures { OnOk result (IsSteppedBy task.now.script.now task.now.behind task.now.named.now task.now.limit i graph.old graph.new (actor ∷ [])) }
 {
     images_are_exact();
-    let mut tells = graph.state(i).tells.clone()?;
+    let mut tells = graph.tells(alloc, i)?;
     tell_turn(&mut machine, task.named, actor, &mut tells)?;
     let facts = machine.image(alloc)?;
+    let step = Step::new(i, actor)?;
     graph.add(
-        State { facts, tells },
-        Some(Step { parent: i, actor }),
+        alloc,
+        facts.as_slice(),
+        tells.as_slice(),
+        Some(step),
         task.limit,
     )
 }
@@ -111,8 +113,8 @@ fn step_each(
     actors: &[ActorNo],
 ) -> Result<(), NoMemory>
     requires graph { IsGraph task.now.script.now task.now.behind task.now.named.now task.now.limit graph.old }
-    requires there { i < length graph.old.states.keys }
-    requires can { (k a : ℕ) → slice_get actors.now k ≡ Some a → CanGoAt task.now.script.now graph.old.states.keys i a }
+    requires there { i < length graph.old.states }
+    requires can { (k a : ℕ) → slice_get actors.now k ≡ Some a → CanGoAt task.now.script.now graph.old.states i a }
     ensures { OnOk result (IsSteppedBy task.now.script.now task.now.behind task.now.named.now task.now.limit i graph.old graph.new actors.now) }
 {
     for actor in actors {
@@ -132,18 +134,18 @@ fn end(
     machine: &Machine,
 ) -> Result<(), NoMemory>
     requires graph { IsGraph task.now.script.now task.now.behind task.now.named.now task.now.limit graph.now }
-    requires there { i < length graph.now.states.keys }
+    requires there { i < length graph.now.states }
     requires found { AreFound task.now.script.now task.now.behind task.now.named.now ends.old }
-    requires at { IsAt task.now.script.now graph.now.states.keys i machine.now }
+    requires at { IsAt task.now.script.now graph.now.states i machine.now }
     requires over { AreReady machine.now [] }
     ensures found { OnOk result (AreFound task.now.script.now task.now.behind task.now.named.now ends.new) }
     ensures keeps { OnOk result (Keeps ends.old.outcomes.items ends.new.outcomes.items) }
-    ensures ends { OnOk result ((state : StateValue) → slice_get graph.now.states.keys i ≡ Some state
+    ensures ends { OnOk result ((state : State) → slice_get graph.now.states i ≡ Some state
         → EndsIn task.now.script.now task.now.named.now ends.new.outcomes.items state) }
 {
     images_are_exact();
     let _task = task;
-    let tells = graph.state(i).tells.clone()?;
+    let tells = graph.tells(alloc, i)?;
     let waits = waits(alloc, machine)?;
     let path = graph.path_to(alloc, i)?;
     ends.add(alloc, Outcome { tells, waits, path })

@@ -1,31 +1,36 @@
 //! The states that orders lead to, and the turns that lead to them.
 ghost use Rattle.std.specs.Prelude.{◌≡◌, ℕ, ◌<◌, Bool, false, List, [], IfOk, OnOk, length, slice_get, Some, reverse};
+ghost use Rattle.gup_search.specs.States.{State};
 ghost use Rattle.gup_search.specs.Graph.{IsBack, Adds};
 
-use crate::told::Tell;
+use crate::pools::small;
+use crate::states::States;
 use gup_base::{ActorNo, NoMemory};
 use gup_image::KeptFact;
-use indexmap::IndexSet;
+use gup_spec_orders::Tell;
 use std::alloc::Global;
-
-/// The image of a machine, and what the named operations have told on the way to it.
-#[derive(Debug, PartialEq, Eq, Hash, Drop)]
-pub(crate) struct State {
-    pub(crate) facts: Vec<KeptFact>,
-    pub(crate) tells: Vec<Tell>,
-}
 
 /// A turn that leads to a state: the number of the state that it is taken in, and its actor.
 #[derive(Clone, Copy, Debug)]
 pub(crate) struct Step {
-    pub(crate) parent: usize,
-    pub(crate) actor: ActorNo,
+    parent: u32,
+    actor: ActorNo,
+}
+
+impl Step {
+    /// The actor's turn in the state with this number.
+    pub(crate) fn new(parent: usize, actor: ActorNo) -> Result<Step, NoMemory>
+        ensures { IfOk result (λ step. step ≡ record { parent = parent; actor = actor }) }
+    {
+        let parent = small(parent)?;
+        Ok(Step { parent, actor })
+    }
 }
 
 /// States, each once, with the turns that led to them first. The first state is the one where all orders begin, and no turn leads there.
 #[derive(Drop)]
 pub(crate) struct Graph {
-    states: IndexSet<State>,
+    states: States,
     steps: Vec<Option<Step>>,
     left_out: bool,
 }
@@ -33,12 +38,12 @@ pub(crate) struct Graph {
 impl Graph {
     /// No states.
     pub(crate) fn new(alloc: Global) -> Graph
-        ensures states { result.states.keys ≡ [] }
+        ensures states { result.states ≡ [] }
         ensures steps { result.steps.items ≡ [] }
         ensures left_out { result.left_out ≡ false }
     {
         Graph {
-            states: IndexSet::new(alloc),
+            states: States::new(alloc),
             steps: Vec::new(alloc),
             left_out: false,
         }
@@ -46,7 +51,7 @@ impl Graph {
 
     /// How many states there are.
     pub(crate) fn len(&self) -> usize
-        ensures { result ≡ length self.now.states.keys }
+        ensures { result ≡ length self.now.states }
     {
         self.states.len()
     }
@@ -58,29 +63,31 @@ impl Graph {
         self.left_out
     }
 
-    /// The state with this number.
-    pub(crate) fn state(&self, i: usize) -> &State
-        requires { i < length self.now.states.keys }
-        ensures { slice_get self.now.states.keys i ≡ Some result.now }
+    /// What the named operations have told on the way to the state with this number.
+    pub(crate) fn tells(&self, alloc: Global, i: usize) -> Result<Vec<Tell>, NoMemory>
+        requires { i < length self.now.states }
+        ensures { IfOk result (λ tells. (state : State) → slice_get self.now.states i ≡ Some state → tells.items ≡ state.tells) }
     {
-        &self.states.as_slice()[i]
+        self.states.tells(alloc, i)
     }
 
-    /// Adds a state that isn't there yet, and the turn that led to it. Where there are `limit` states already, it is left out.
+    /// Adds the state with these facts and tells, if it isn't there yet, and the turn that led to it. Where there are `limit` states
+    /// already, it is left out.
     pub(crate) fn add(
         &mut self,
-        state: State,
+        alloc: Global,
+        facts: &[KeptFact],
+        tells: &[Tell],
         step: Option<Step>,
         limit: usize,
     ) -> Result<(), NoMemory>
-        ensures { OnOk result (Adds limit self.old self.new state step) }
+        ensures { OnOk result (Adds limit self.old self.new (record { facts = facts.now; tells = tells.now }) step) }
     {
         if self.states.len() < limit {
-            let (_, is_new) = self.states.insert_full(state)?;
-            if is_new {
+            if self.states.insert(alloc, facts, tells)? {
                 self.steps.push(step)?;
             }
-        } else if !self.states.contains(&state) {
+        } else if !self.states.contains(alloc, facts, tells)? {
             self.left_out = true;
         }
         Ok(())
@@ -95,7 +102,7 @@ impl Graph {
         let mut at = i;
         while let Some(step) = self.steps[at] {
             path.push(step.actor)?;
-            at = step.parent;
+            at = step.parent as usize;
         }
         path.reverse();
         Ok(path)

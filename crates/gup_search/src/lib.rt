@@ -4,10 +4,10 @@
 mod ends;
 mod expand;
 mod graph;
+mod pools;
 mod replay;
 mod search;
+mod states;
 mod tells;
-mod told;
 
-pub use search::{Explored, Outcome, explore};
-pub use told::{Named, Tell, Told};
+pub use search::{Explored, explore};

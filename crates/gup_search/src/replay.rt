@@ -4,15 +4,15 @@ ghost use Rattle.std.specs.List.{All};
 ghost use Rattle.gup_script.specs.Script.{ScriptValue};
 ghost use Rattle.gup_spec_turns.specs.Run.{RunState, turned, run_start, can_go};
 ghost use Rattle.gup_core.specs.Machine.{Shows};
-ghost use Rattle.gup_search.specs.Orders.{setup};
+ghost use Rattle.gup_spec_orders.specs.Orders.{setup};
 ghost use Rattle.gup_search.specs.Search.{Stands, TakesToldTurn, AreReady, AreWaits};
 
 use crate::tells::tell_notes;
-use crate::told::{Named, Tell};
 use gup_base::{ActorNo, NoMemory};
 use gup_core::Machine;
 use gup_plain::Waiting;
 use gup_script::Script;
+use gup_spec_orders::{Named, Tell};
 use std::alloc::Global;
 
 /// A machine of the script that has taken the written turns, if `behind`, and then those of the path.

@@ -1,25 +1,17 @@
 //! The search.
-ghost use Rattle.std.specs.Prelude.{◌≡◌, ℕ, true, false, IfOk};
-ghost use Rattle.gup_search.specs.Orders.{AreOfOrders, AreOfAllOrders};
+ghost use Rattle.std.specs.Prelude.{◌≡◌, ◌≤◌, ◌+◌, true, false, if◌then◌else◌, IfOk};
+ghost use Rattle.gup_spec_orders.specs.Orders.{AreOfOrders, AreOfAllOrders};
+ghost use Rattle.gup_search.specs.Reach.{ReachesStates, ReachesAllStates};
 
 use crate::ends::Ends;
 use crate::expand::{Task, begin, expand};
-use crate::told::{Named, Tell};
-use gup_base::{ActorNo, NoMemory};
-use gup_plain::Waiting;
+use gup_base::NoMemory;
 use gup_script::Script;
+use gup_spec_orders::{Named, Outcome};
 use std::alloc::Global;
 
-/// What an order comes to: what the named operations tell, what each actor waits for at the end, and the order, one of the shortest.
-#[derive(Debug, Drop)]
-pub struct Outcome {
-    pub tells: Vec<Tell>,
-    pub waits: Vec<Option<Waiting>>,
-    pub path: Vec<ActorNo>,
-}
-
 /// What a search has found: the outcomes, each once, in the order in which they were found; over how many states it has gone; and
-/// whether it is open, which it is only where there were more states than the limit.
+/// whether it is open, which it is exactly where orders lead to more different states than the limit.
 #[derive(Debug, Drop)]
 pub struct Explored {
     pub outcomes: Vec<Outcome>,
@@ -40,6 +32,9 @@ pub fn explore(
     ensures happen { IfOk result (λ found. AreOfOrders script.now behind named.now found.outcomes.items) }
     ensures all { IfOk result (λ found. found.open ≡ false → AreOfAllOrders script.now behind named.now found.outcomes.items) }
     ensures open { IfOk result (λ found. found.open ≡ true → found.states ≡ limit) }
+    ensures states { IfOk result (λ found. ReachesStates script.now behind named.now (if found.open then limit + 1 else found.states)) }
+    ensures few { IfOk result (λ found. found.open ≡ false → found.states ≤ limit) }
+    ensures no_others { IfOk result (λ found. found.open ≡ false → ReachesAllStates script.now behind named.now found.states) }
 {
     let task = Task {
         script,

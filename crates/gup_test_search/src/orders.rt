@@ -2,7 +2,8 @@ use gup_base::ActorNo;
 use gup_plain::{Answer, Waiting};
 use gup_read::read_script;
 use gup_script::Script;
-use gup_search::{Explored, Named, Outcome, Told, explore};
+use gup_search::{Explored, explore};
+use gup_spec_orders::{Named, Outcome, Told};
 use std::alloc::Global;
 use std::process::Abort;
 use std::test::Fail;
@@ -25,6 +26,14 @@ on d take f\non d out f 0 0 1\n";
 // Nobody gives the pin that d is to take, where t's load comes before its map.
 const NEVER_GIVEN: &str = "gup 1\nframes 8 8 64\nprocess p\nthread t p\nthread u p\ndevice d 8\n\
 on t map 5 1 rw\non u pin f 5 1 write\non u give f d\non d take f\n";
+
+// Two turns, one after the other: the states are the start, and one behind each turn.
+const MAP_AND_STORE: &str = "gup 1\nframes 8 8 64\nprocess p\nthread t p\n\
+on t map 5 1 rw\non t store 5.0 7\n";
+
+// Two threads map a page each: the states are the start, one behind either map, and one behind both, whichever came first.
+const TWO_MAPS: &str = "gup 1\nframes 8 8 64\nprocess p\nthread t p\nthread v p\n\
+on t map 5 1 rw\non v map 9 1 rw\n";
 
 fn read(alloc: Global, text: &str) -> Result<Script, Fail> {
     match read_script(alloc, text.as_bytes()) {
@@ -146,5 +155,28 @@ fn a_limit_leaves_a_search_open(rt: HostRuntime) -> Result<(), Fail> {
         assert!(rt; found.open);
         assert_eq!(rt; found.states, limit);
     }
+    Ok(())
+}
+
+#[test]
+fn a_search_with_just_enough_room_is_not_open(rt: HostRuntime) -> Result<(), Fail> {
+    for limit in [4, 5, 10_000] {
+        let found = explored(rt.alloc(), TWO_MAPS, false, limit)?;
+        assert!(rt; !found.open);
+        assert_eq!(rt; found.states, 4);
+        assert_eq!(rt; found.outcomes.len(), 1);
+    }
+    let found = explored(rt.alloc(), TWO_MAPS, false, 3)?;
+    assert!(rt; found.open);
+    assert_eq!(rt; found.states, 3);
+    Ok(())
+}
+
+#[test]
+fn each_turn_of_one_thread_leads_to_a_state(rt: HostRuntime) -> Result<(), Fail> {
+    let found = explored(rt.alloc(), MAP_AND_STORE, false, 10_000)?;
+    assert!(rt; !found.open);
+    assert_eq!(rt; found.states, 3);
+    assert_eq!(rt; found.outcomes.len(), 1);
     Ok(())
 }

@@ -7,7 +7,7 @@ use Rattle.gup_search.proofs.expand.expand.Goals as goal
 
 pub step-requires-clause-can : goal.step-requires-clause-can
 step-requires-clause-can c =
-    let keys = c.args.graph.now.states.keys in
+    let keys = c.args.graph.now.states in
     let m = c.in_ok-machine.machine in
     let state = there_is keys c.args.i c.requires.there in
     let ready : List ℕ = c.in-Some.first.now ∷ c.in-Some.others.now in
@@ -20,7 +20,7 @@ step_each-requires-clause-there c = there_grown c.args.graph.now c.step.new.grap
 pub step_each-requires-clause-can : goal.step_each-requires-clause-can
 step_each-requires-clause-can c =
     let script = c.args.task.now.script.now in
-    let keys = c.args.graph.now.states.keys in
+    let keys = c.args.graph.now.states in
     let m = c.in_ok-machine.machine in
     let state = there_is keys c.args.i c.requires.there in
     let ready : List ℕ = c.in-Some.first.now ∷ c.in-Some.others.now in
@@ -35,7 +35,7 @@ returns-in-None c =
     let graph = c.args.graph.now in
     let m = c.in_ok-machine.machine in
     let is = c.in_ok-machine.ensures in
-    let state = there_is graph.states.keys c.args.i c.requires.there in
+    let state = there_is graph.states c.args.i c.requires.there in
     let are : AreReady m [] = subst (λ (xs : List ℕ). AreReady m xs) (sym c.as_slice.ensures.value ∙ no_items c.as_slice.result.now c.in-None.ensures.cases) c.in_ok-ready.ensures in
     on_ok_three c.end.result _ _ _ _
     (
@@ -55,7 +55,7 @@ returns-in_ok-step-in-Some c =
     let others = c.in-Some.others.now in
     let m = c.in_ok-machine.machine in
     let is = c.in_ok-machine.ensures in
-    let state = there_is graph.states.keys c.args.i c.requires.there in
+    let state = there_is graph.states c.args.i c.requires.there in
     let are : AreReady m (first ∷ others) = subst (λ (xs : List ℕ). AreReady m xs) (sym c.as_slice.ensures.value ∙ c.in-Some.ensures.cases.0) c.in_ok-ready.ensures in
     on_ok c.step_each.result _ _
     (

@@ -16,7 +16,7 @@ step-requires-clause-there c = there_grown c.args.graph.now c.loop-actor.graph c
 
 pub step-requires-clause-can : goal.step-requires-clause-can
 step-requires-clause-can c =
-    let state = there_is c.args.graph.now.states.keys c.args.i c.requires.there in
+    let state = there_is c.args.graph.now.states c.args.i c.requires.there in
     let there = read_at c.args.actors.now c.loop-actor.actor-index c.actor-item.result c.loop-actor-test.true c.actor-item.is in
     can_go_grown c.args.task.now.script.now c.args.graph.now c.loop-actor.graph c.args.i c.actor-item.result state.0 state.1 c.loop-actor.invariant.grows
     (c.requires.can c.loop-actor.actor-index c.actor-item.result there)

@@ -2,7 +2,7 @@ use Rattle.std.proofs.Common.{◌≡◌, ℕ, List, ◌++◌, sym, subst, ◌∙
 use Rattle.gup_script.specs.Script.{ScriptValue}
 use Rattle.gup_spec_turns.specs.Run.{RunState, run_start, turned}
 use Rattle.gup_core.specs.Machine.{MachineValue, Shows, IsNew}
-use Rattle.gup_search.specs.Orders.{setup}
+use Rattle.gup_spec_orders.specs.Orders.{setup}
 use Rattle.gup_search.proofs.Turns.{turned-append}
 use Rattle.gup_search.proofs.replay.replayed.Goals as goal
 

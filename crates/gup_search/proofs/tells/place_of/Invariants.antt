@@ -1,6 +1,6 @@
 use Rattle.std.proofs.Common.{◌≤◌, ◌<◌, length, drop}
 use Rattle.std.specs.List.{All}
-use Rattle.gup_search.specs.declared.told.Tell.{Tell}
+use Rattle.gup_spec_orders.specs.declared.told.Tell.{Tell}
 use Rattle.gup_search.proofs.tells.place_of.Given as goal
 
 -- what is behind the place is of operations behind this one

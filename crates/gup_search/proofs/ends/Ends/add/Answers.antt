@@ -1,7 +1,7 @@
 use Rattle.std.proofs.Common.{◌≡◌, ℕ, ◌⊎◌, List, [], ◌∷◌, ◌++◌, Some, slice_get, length, inl, inr, refl, sym, subst, ◌∙◌}
 use Rattle.std.proofs.lemmas.List.Elements.{same_from_all_zip}
 use Rattle.gup_search.specs.Ends.{HasEnd}
-use Rattle.gup_search.specs.declared.search.Outcome.{Outcome}
+use Rattle.gup_spec_orders.specs.declared.told.Outcome.{Outcome}
 use Rattle.gup_search.specs.declared.ends.End.{End}
 use Rattle.gup_search.proofs.Lists.{kept_keys, pushed_keys, at_end, at_longer, at_either}
 use Rattle.gup_search.proofs.Same.{end_same}
