@@ -5,5 +5,5 @@ mod kept;
 mod lines;
 mod outcome;
 
-pub use lines::{outcomes, push_line, push_lines, push_stuck};
+pub use lines::{outcomes, push_answer, push_line, push_lines, push_stuck};
 pub use outcome::{Outcome, Outcomes};

@@ -289,8 +289,10 @@ fn push_behind_space(text: &mut Vec<u8>, cause: Cause) -> Result<(), NoMemory>
     push_cause(text, cause)
 }
 
+/// Appends the text of an answer, as it stands in a line behind the actor's name and the operation's number; the words are those that a
+/// transfer has moved. Where memory is wanted, a part of it may have been appended.
 #[tactic(auto, using(crate::proofs::Fronts::fronts))]
-fn push_answer(text: &mut Vec<u8>, answer: Answer, words: &[u64]) -> Result<(), NoMemory>
+pub fn push_answer(text: &mut Vec<u8>, answer: Answer, words: &[u64]) -> Result<(), NoMemory>
     ensures ok { OnOk result (text.new.items ≡ text.old.items ++ answer_text answer words.now) }
     ensures err { OnErr result (BeginsWith text.new.items text.old.items) }
 {
