@@ -10,8 +10,9 @@ use Rattle.gup_spec_journal.specs.Place.{has_finished, ops_of, doer_of}
 use Rattle.gup_spec_turns.specs.Cause.{HaveFinished, WaitsForBirthOrPin}
 use Rattle.gup_spec_turns.specs.Run.{RunState, op_in, waiting_with, waiting_in, is_ready, can_go, IsCoreRun}
 use Rattle.gup_lines.specs.Text.{NamesWaiting, text_of}
+use Rattle.gup_front.specs.Lines.{stuck_of}
 use Rattle.gup.specs.Report.{HasRun, IsRunOf, IsToldRun, IsEnd}
-use Rattle.gup.specs.Stuck.{IsFinishedRun, IsStuckRun, AreWaiting, stuck_of, stuck_lines, run_text}
+use Rattle.gup.specs.Stuck.{IsFinishedRun, IsStuckRun, AreWaiting, stuck_lines, run_text}
 
 -- an actor that has finished has no operation left, and one that hasn't has one
 

@@ -1,5 +1,5 @@
 -- What the top call is asked, and what it may answer.
-use Rattle.std.specs.Prelude.{◌≡◌, ℕ, ◌<◌, ◌^◌, ◌⊎◌, Bool, false, List, [], ◌∷◌, ◌++◌, codes, decimal, drop, length, Option, None, Some}
+use Rattle.std.specs.Prelude.{◌≡◌, ℕ, ◌<◌, ◌^◌, ◌⊎◌, Bool, false, List, [], ◌∷◌, codes, decimal, length, Option, Some}
 use Rattle.gup_plain.specs.Note.{NoteValue}
 use Rattle.gup_spec_turns.specs.Cost.{operations}
 use Rattle.gup_plain.specs.declared.note.Waiting.{Waiting}
@@ -8,7 +8,6 @@ use Rattle.gup_spec_turns.specs.Run.{RunState, IsCoreRun, waiting_in}
 use Rattle.gup_core.specs.Machine.{MachineValue, Shows}
 use Rattle.gup_sched.specs.Ran.{SaysStuck}
 use Rattle.gup_lines.specs.Text.{outcomes_of}
-use Rattle.gup_io.specs.Faults.{EndsInFault}
 use Rattle.gup_io.specs.Transfers.{AppendsPart}
 use Rattle.gup_spec_journal.specs.Plain.{IsPlain}
 use Rattle.gup_spec_journal.specs.Thorough.{IsThorough}
@@ -18,18 +17,12 @@ use Rattle.gup_spec_journal.specs.Place.{starts_born}
 use Rattle.gup_law_owners.specs.Owners.{OwnsBytes, journal_events}
 use Rattle.gup.specs.declared.command.Command.{Command}
 use Rattle.gup.specs.declared.command.Command.TheVariants.{Run, Make}
-use Rattle.gup.specs.declared.top.Unread.{Unread}
-use Rattle.gup.specs.declared.top.Unread.TheVariants.{Failed, Fault, NoMemory}
 use Rattle.gup.specs.Cause.{HasCauses}
 use Rattle.gup_spec_journal.specs.Stale.{AreStaleSeen}
 use Rattle.gup_make.specs.Made.{made_text}
 use Rattle.gup.specs.Stuck.{IsFinishedRun, IsStuckRun, AreWaiting, run_text}
 use Rattle.gup.specs.Summary.{summary_text}
-use Rattle.gup_spec_grammar.specs.Fault.{HasFault}
 use Rattle.gup_spec_grammar.specs.Grammar.{Accepts}
-use Rattle.gup_spec_grammar.specs.declared.fault.Reason.{Reason}
-use Rattle.gup_spec_grammar.specs.declared.fault.Reason.TheVariants as reasons
-use Rattle.gup_spec_grammar.specs.declared.fault.ScriptFault.{ScriptFault}
 use Rattle.gup_script.specs.Script.{ScriptValue}
 
 -- The command `run`: that word alone.
@@ -61,52 +54,6 @@ HasRun status = (status ≡ 0) ⊎ (status ≡ 4)
 -- what is written where the words are no command
 abbrev pub usage : List ℕ
 usage = codes "usage: gup COMMAND\n"
-
-abbrev pub reason_text : Reason → List ℕ
-reason_text reasons.Long = codes "long"
-reason_text reasons.Byte = codes "byte"
-reason_text reasons.End = codes "end"
-reason_text reasons.Space = codes "space"
-reason_text reasons.Head = codes "head"
-reason_text reasons.Frames = codes "frames"
-reason_text reasons.Word = codes "word"
-reason_text reasons.Shape = codes "shape"
-reason_text reasons.Number = codes "number"
-reason_text reasons.Name = codes "name"
-reason_text reasons.Twice = codes "twice"
-reason_text reasons.Limit = codes "limit"
-reason_text reasons.Later = codes "later"
-reason_text reasons.Short = codes "short"
-
--- what is written where the script is refused
-abbrev pub refusal_text : ScriptFault → List ℕ
-refusal_text fault = codes "line " ++ decimal fault.line ++ codes ": " ++ reason_text fault.reason ++ codes "\n"
-
--- Where the source tells its bytes, this holds of the script that they are, if they are one.
-abbrev pub OfScript : Option (List ℕ) → (ScriptValue → Type 0) → Type 0
-OfScript None P = Unit {0}
-OfScript (Some bytes) P = (script : ScriptValue) → Accepts bytes script → P script
-
--- Where the source tells its bytes, they are a script.
-abbrev pub AreScript : Option (List ℕ) → Type 0
-AreScript None = Unit {0}
-AreScript (Some bytes) = (script : ScriptValue) × Accepts bytes script
-
--- where the source tells its bytes, they are this script
-abbrev pub IsScriptOf : Option (List ℕ) → ScriptValue → Type 0
-IsScriptOf None script = Unit {0}
-IsScriptOf (Some bytes) script = Accepts bytes script
-
--- Why a script is refused: where the source tells its bytes, they have this first fault.
-abbrev pub IsRefusedFor : Option (List ℕ) → ScriptFault → Type 0
-IsRefusedFor None fault = Unit {0}
-IsRefusedFor (Some bytes) fault = HasFault bytes fault
-
--- why there is no script: a read failed, and none was made after it, the bytes are none, or memory ran out
-abbrev pub IsUnreadFor : Option (List ℕ) → (faults faults_after : ℕ) → (faulted_after : Bool) → Unread → Type 0
-IsUnreadFor told faults faults_after faulted_after Failed = EndsInFault faults faults_after faulted_after
-IsUnreadFor told faults faults_after faulted_after (Fault fault) = IsRefusedFor told fault
-IsUnreadFor told faults faults_after faulted_after NoMemory = Unit {0}
 
 -- What is said of a run of a script. At its end an actor has operations left and waits, or each has finished, and then each
 -- operation has one answer.
@@ -154,14 +101,3 @@ abbrev pub IsEnd : ScriptValue → (status : ℕ) → List NoteValue → Type 0
 IsEnd script status notes =
     ((status ≡ 0) × IsFinishedRun script notes × (length (outcomes_of notes) ≡ operations script))
     ⊎ ((status ≡ 4) × IsStuckRun script notes) ⊎ (status ≡ 7)
-
--- told bytes are read to their end, or so far that no script is that long
-abbrev pub IsReadThrough : Option (List ℕ) → Option (List ℕ) → Type 0
-IsReadThrough None after = Unit {0}
-IsReadThrough (Some bytes) after = after ≡ Some (drop 1048577 bytes)
-
--- a fact for the case that the bytes are no script
-abbrev pub IfFault : Unread → Type 0 → Type 0
-IfFault (Fault fault) P = P
-IfFault Failed P = Unit {0}
-IfFault NoMemory P = Unit {0}

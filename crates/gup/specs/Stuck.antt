@@ -1,5 +1,5 @@
 -- The end of a run, and the lines of the actors that are stuck there.
-use Rattle.std.specs.Prelude.{◌≡◌, ℕ, ◌<◌, false, List, [], ◌++◌, length, Option, Some, None, zero, suc}
+use Rattle.std.specs.Prelude.{◌≡◌, ℕ, ◌<◌, false, List, [], ◌++◌, length, Some, zero, suc}
 use Rattle.gup_plain.specs.Note.{NoteValue}
 use Rattle.gup_plain.specs.declared.note.Waiting.{Waiting}
 use Rattle.gup_script.specs.Script.{ScriptValue}
@@ -7,7 +7,8 @@ use Rattle.gup_spec_journal.specs.Place.{has_finished}
 use Rattle.gup_spec_turns.specs.Cause.{HaveFinished, WaitsForBirthOrPin}
 use Rattle.gup_spec_turns.specs.Run.{RunState, IsCoreRun, waiting_in}
 use Rattle.gup_sched.specs.Ran.{IsStuckAt}
-use Rattle.gup_lines.specs.Text.{stuck_line, text_of}
+use Rattle.gup_lines.specs.Text.{text_of}
+use Rattle.gup_front.specs.Lines.{stuck_of}
 
 -- the journal is the script's core run, in which every actor has finished
 abbrev pub IsFinishedRun : ScriptValue → List NoteValue → Type 0
@@ -23,12 +24,7 @@ AreWaiting script end =
 abbrev pub IsStuckRun : ScriptValue → List NoteValue → Type 0
 IsStuckRun script notes = (end : RunState) × IsCoreRun script notes end × IsStuckAt script end × AreWaiting script end
 
--- the line of an actor that waits
-abbrev pub stuck_of : ScriptValue → (a : ℕ) → Option Waiting → List ℕ
-stuck_of script a None = []
-stuck_of script a (Some waiting) = stuck_line script a waiting
-
--- those of the first n actors, in declared order: who waits at the end of a run has operations left
+-- the lines of the first n actors, in declared order: who waits at the end of a run has operations left
 abbrev pub stuck_lines : ScriptValue → RunState → ℕ → List ℕ
 stuck_lines script end zero = []
 stuck_lines script end (suc n) = stuck_lines script end n ++ stuck_of script n (waiting_in script end n)

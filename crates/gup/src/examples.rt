@@ -201,7 +201,7 @@ pub const EXAMPLES: [(&str, u8, &str); 36] = [
     ),
     // stuck.gup
     (
-        "# Two threads that each hold the pin which the other is to take wait for ever, and the run prints for what. The two of the other\n# process give before they take, and are never left waiting, whoever comes first.\n# Linux: mm/gup.c knows no such wait; it is whoever hands buffers on that deadlocks, and the model shows it as such.\n# never: stuck w handle n\n# never: stuck x handle m\ngup 1\nframes 8 8 64\nprocess p\nprocess q\nthread t p\nthread v p\nthread w q\nthread x q\non t map 5 1 rw\non v map 6 1 rw\non t pin h 5 1 read\non v pin k 6 1 read\non t take k\non v take h\non t give h v\non v give k t\non w map 5 1 rw\non x map 6 1 rw\non w pin m 5 1 read\non x pin n 6 1 read\non w give m x\non x give n w\non w take n\non x take m\n",
+        "# Two threads that each hold the pin which the other is to take wait for ever, and the run prints for what. The two of the other\n# process give before they take, and are never left waiting, whoever comes first.\n# Linux: mm/gup.c knows no such wait; it is whoever hands buffers on that deadlocks, and the model shows it as such.\n# never stuck: w handle n\n# never stuck: x handle m\ngup 1\nframes 8 8 64\nprocess p\nprocess q\nthread t p\nthread v p\nthread w q\nthread x q\non t map 5 1 rw\non v map 6 1 rw\non t pin h 5 1 read\non v pin k 6 1 read\non t take k\non v take h\non t give h v\non v give k t\non w map 5 1 rw\non x map 6 1 rw\non w pin m 5 1 read\non x pin n 6 1 read\non w give m x\non x give n w\non w take n\non x take m\n",
         4,
         "t 1 ok\nv 1 ok\nw 1 ok\nx 1 ok\nt 2 ok 1\nv 2 ok 1\nw 2 ok 1\nx 2 ok 1\nw 3 ok\nx 3 ok\nw 4 ok\nx 4 ok\nstuck t handle k\nstuck v handle h\n",
     ),

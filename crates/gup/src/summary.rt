@@ -4,8 +4,8 @@ ghost use Rattle.gup_lines.specs.Text.{outcomes_of};
 ghost use Rattle.gup.specs.Summary.{says_ok, word_of, word_in, words_sum, counted, summary_lines};
 ghost use Rattle.gup.specs.Counts.{is_ok, answers_in, oks_in};
 
-use crate::text::push_text;
 use gup_base::NoMemory;
+use gup_front::push_text;
 use gup_plain::{Answer, Journal, PlainEvent, What};
 use itoa::Buffer;
 use std::alloc::Global;

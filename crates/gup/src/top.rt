@@ -1,8 +1,10 @@
 //! The top call: what the program does, from its words and its bytes to its text.
-ghost use Rattle.std.specs.Prelude.{◌≡◌, ℕ, ◌⊎◌, Bool, List, [], None, Some, IsSome, IfSome, IfOk, OnOk, IfErr, Err, IsTrue, true, false, if◌then◌else◌, ◌↔◌, map, codes, string_bytes, length, take, ◌+◌};
+ghost use Rattle.std.specs.Prelude.{◌≡◌, ℕ, ◌⊎◌, Bool, List, [], None, Some, IsSome, IfSome, IfOk, IsTrue, true, false, if◌then◌else◌, ◌↔◌, map, codes, string_bytes, length, take, ◌+◌};
 ghost use Rattle.std.specs.Io.KnownBytes.{Appends};
 ghost use Rattle.gup_io.specs.Transfers.{Loses, AppendsPart};
 ghost use Rattle.gup_io.specs.Faults.{HasCause, EndsInFault};
+ghost use Rattle.gup_front.specs.Reading.{OfScript, AreScript, IsScriptOf, IsRefusedFor, IsReadThrough};
+ghost use Rattle.gup_front.specs.Lines.{refusal_text};
 ghost use Rattle.gup_script.specs.Script.{ScriptValue};
 ghost use Rattle.gup_spec_journal.specs.Place.{starts_born};
 ghost use Rattle.gup_spec_journal.specs.Plain.{IsPlain};
@@ -16,16 +18,17 @@ ghost use Rattle.gup_lines.specs.Text.{text_of, outcomes_of};
 ghost use Rattle.gup.specs.Cause.{HasCauses};
 ghost use Rattle.gup_spec_journal.specs.Stale.{AreStaleSeen};
 ghost use Rattle.gup.specs.Stuck.{IsFinishedRun, IsStuckRun, run_text};
-ghost use Rattle.gup.specs.Report.{IsRun, IsMake, IsCommand, IsStatus, IsMadeStatus, HasRun, OfScript, AreScript, IsEndOfRun, IsToldRun, IsMadeRun, IsPartlyTold, IsEnd, IsScriptOf, IsUnreadFor, IsRefusedFor, IsReadThrough, IfFault, usage, refusal_text};
+ghost use Rattle.gup.specs.Report.{IsRun, IsMake, IsCommand, IsStatus, IsMadeStatus, HasRun, IsEndOfRun, IsToldRun, IsMadeRun, IsPartlyTold, IsEnd, usage};
 ghost use Rattle.gup_make.specs.Made.{made_text};
 ghost use Rattle.gup_spec_grammar.specs.Grammar.{Accepts};
 
 use crate::command::{Command, command_of};
 use crate::summary::summary_lines;
-use crate::text::{journal_text, push_stuck_lines, refusal_line};
+use crate::text::{journal_text, push_stuck_lines};
 use gup_base::NoMemory;
 use gup_core::Machine;
-use gup_io::{ReadToEnd, Sink, Source, read_up_to, write_all};
+use gup_front::{Unread, read, refusal_line};
+use gup_io::{Sink, Source, write_all};
 use gup_law_journal::{
     core_run_follows, core_run_is_in_order, core_run_is_plain, core_run_is_thorough,
     finished_runs_answer_all, looks_have_their_cause, moves_have_their_causes,
@@ -41,9 +44,6 @@ use gup_sched::{Run, run_machine};
 use gup_script::Script;
 use gup_spec_grammar::{ReadRefusal, ScriptFault};
 use std::alloc::Global;
-
-/// The most bytes of a script, and one more: a longer text is refused without reading on.
-const READ_AT_MOST: usize = 1_048_577;
 
 /// What the program did: its exit status, the journal of the run, and the fault of a script that was refused.
 #[derive(Debug, Drop)]
@@ -65,39 +65,6 @@ impl Report {
             journal: Journal::new(alloc),
             refusal,
         }
-    }
-}
-
-// Why there is no script to run.
-#[derive(Clone, Copy, Debug)]
-enum Unread {
-    // A read failed.
-    Failed,
-    // The bytes are no script.
-    Fault(ScriptFault),
-    NoMemory,
-}
-
-// Reads the source to its end, or past the length of a script, and the script that its bytes are.
-fn read<S: Source>(alloc: Global, source: &mut S) -> Result<Script, Unread>
-    ensures script { IfOk result (λ script. IsScriptOf (S.remaining source.old) script) }
-    ensures unread { IfErr result
-        (λ why. IsUnreadFor (S.remaining source.old) (S.faults source.old) (S.faults source.new) (S.faulted source.new) why) }
-    ensures reading { Loses 0 1048577 (S.remaining source.old) (S.remaining source.new) }
-    ensures ended { OnOk result (IsReadThrough (S.remaining source.old) (S.remaining source.new)) }
-    ensures refused { IfErr result
-        (λ why. IfFault why (IsReadThrough (S.remaining source.old) (S.remaining source.new))) }
-    ensures uncounted { (result ≡ Err Unread.Failed → ⊥) → S.faults source.new ≡ S.faults source.old }
-{
-    let text = match read_up_to(alloc, source, READ_AT_MOST) {
-        Ok(text) => text,
-        Err(ReadToEnd::Failed) => return Err(Unread::Failed),
-        Err(ReadToEnd::NoMemory) => return Err(Unread::NoMemory),
-    };
-    match read_script(alloc, text.as_slice()) {
-        Ok(script) => Ok(script),
-        Err(ReadRefusal::Fault(fault)) => Err(Unread::Fault(fault)),
-        Err(ReadRefusal::NoMemory) => Err(Unread::NoMemory),
     }
 }
 
@@ -417,7 +384,7 @@ pub fn gup<S: Source, K: Sink>(
         return make_and_write(alloc, sink, n);
     }
     match read(alloc, source) {
-        Ok(script) => run_and_write(alloc, sink, script),
+        Ok(found) => run_and_write(alloc, sink, found.script),
         Err(Unread::Failed) => Report::unrun(alloc, 5, None),
         Err(Unread::Fault(fault)) => refuse(alloc, sink, fault),
         Err(Unread::NoMemory) => Report::unrun(alloc, 7, None),

@@ -6,7 +6,8 @@ use Rattle.gup_script.specs.Script.{ScriptValue}
 use Rattle.gup_spec_turns.specs.Cause.{WaitsForBirthOrPin}
 use Rattle.gup_spec_turns.specs.Run.{RunState, waiting_in}
 use Rattle.gup_lines.specs.Text.{NamesWaiting}
-use Rattle.gup.specs.Stuck.{stuck_of, stuck_lines}
+use Rattle.gup_front.specs.Lines.{stuck_of}
+use Rattle.gup.specs.Stuck.{stuck_lines}
 use Rattle.gup.proofs.RunEnd.{names_process}
 use Rattle.gup.proofs.text.push_stuck_lines.Goals as goal
 

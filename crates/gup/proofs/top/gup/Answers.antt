@@ -13,19 +13,24 @@ use Rattle.gup_spec_turns.specs.Run.{RunState, IsCoreRun}
 use Rattle.gup.specs.Cause.{HasCauses}
 use Rattle.gup_spec_journal.specs.Stale.{AreStaleSeen}
 use Rattle.gup_io.specs.Transfers.{AppendsPart}
-use Rattle.gup.specs.Report.{IsMake, IsAsked, IsMadeRun, IsPartlyTold, IsEnd, IsUnreadFor}
+use Rattle.gup_front.specs.Reading.{IsUnreadFor}
+use Rattle.gup_front.specs.declared.reading.Unread.{Unread}
+use Rattle.gup_front.proofs.ReadBytes.{has_cause, of_script, are_script, of_none, refused_none}
+use Rattle.gup.specs.Report.{IsMake, IsAsked, IsMadeRun, IsPartlyTold, IsEnd}
 use Rattle.gup.specs.declared.command.Command.{Command}
 use Rattle.gup.specs.declared.command.Command.TheVariants.{Make}
 use Rattle.gup.proofs.Commands.{one_number}
 use Rattle.gup.specs.Stuck.{IsFinishedRun, IsStuckRun, run_text}
-use Rattle.gup.specs.declared.top.Unread.{Unread}
 use Rattle.gup.proofs.RunEnd.{ran, finished_written, stuck_written, finished_run, stuck_run, ended}
-use Rattle.gup.proofs.ReadBytes.{has_cause, of_script, of_none, refused_none}
 use Rattle.gup.proofs.top.gup.Goals as goal
+
+pub returns-in-Ok-clause-script : goal.returns-in-Ok-clause-script
+returns-in-Ok-clause-script g c command has =
+    are_script (g.S.Source.remaining c.args.source.now) c.in-Ok.found.script c.in-Ok.ensures.script
 
 pub returns-in-Ok-clause-follows : goal.returns-in-Ok-clause-follows
 returns-in-Ok-clause-follows g c command has =
-    let script = c.in-Ok.script in
+    let script = c.in-Ok.found.script in
     let report = c.run_and_write.result in
     let W : List ℕ → Type 0 = λ text. Appends (g.K.Sink.taken c.args.sink.now) (g.K.Sink.taken c.run_and_write.new.sink) text in
     let P : ScriptValue → Type 0 = λ s. Follows s report.journal.notes in
@@ -34,7 +39,7 @@ returns-in-Ok-clause-follows g c command has =
 
 pub returns-in-Ok-clause-in_order : goal.returns-in-Ok-clause-in_order
 returns-in-Ok-clause-in_order g c command has =
-    let script = c.in-Ok.script in
+    let script = c.in-Ok.found.script in
     let report = c.run_and_write.result in
     let W : List ℕ → Type 0 = λ text. Appends (g.K.Sink.taken c.args.sink.now) (g.K.Sink.taken c.run_and_write.new.sink) text in
     let P : ScriptValue → Type 0 = λ s. InOrder s report.journal.notes in
@@ -43,7 +48,7 @@ returns-in-Ok-clause-in_order g c command has =
 
 pub returns-in-Ok-clause-plain : goal.returns-in-Ok-clause-plain
 returns-in-Ok-clause-plain g c command has =
-    let script = c.in-Ok.script in
+    let script = c.in-Ok.found.script in
     let report = c.run_and_write.result in
     let W : List ℕ → Type 0 = λ text. Appends (g.K.Sink.taken c.args.sink.now) (g.K.Sink.taken c.run_and_write.new.sink) text in
     let P : ScriptValue → Type 0 = λ s. IsPlain s report.journal.notes in
@@ -52,7 +57,7 @@ returns-in-Ok-clause-plain g c command has =
 
 pub returns-in-Ok-clause-thorough : goal.returns-in-Ok-clause-thorough
 returns-in-Ok-clause-thorough g c command has =
-    let script = c.in-Ok.script in
+    let script = c.in-Ok.found.script in
     let report = c.run_and_write.result in
     let W : List ℕ → Type 0 = λ text. Appends (g.K.Sink.taken c.args.sink.now) (g.K.Sink.taken c.run_and_write.new.sink) text in
     let P : ScriptValue → Type 0 = λ s. IsThorough s report.journal.notes in
@@ -61,7 +66,7 @@ returns-in-Ok-clause-thorough g c command has =
 
 pub returns-in-Ok-clause-owned : goal.returns-in-Ok-clause-owned
 returns-in-Ok-clause-owned g c command has =
-    let script = c.in-Ok.script in
+    let script = c.in-Ok.found.script in
     let report = c.run_and_write.result in
     let W : List ℕ → Type 0 = λ text. Appends (g.K.Sink.taken c.args.sink.now) (g.K.Sink.taken c.run_and_write.new.sink) text in
     let P : ScriptValue → Type 0 = λ s. OwnsBytes (starts_born s) (journal_events report.journal.notes) in
@@ -70,7 +75,7 @@ returns-in-Ok-clause-owned g c command has =
 
 pub returns-in-Ok-clause-causes : goal.returns-in-Ok-clause-causes
 returns-in-Ok-clause-causes g c command has =
-    let script = c.in-Ok.script in
+    let script = c.in-Ok.found.script in
     let report = c.run_and_write.result in
     let W : List ℕ → Type 0 = λ text. Appends (g.K.Sink.taken c.args.sink.now) (g.K.Sink.taken c.run_and_write.new.sink) text in
     let P : ScriptValue → Type 0 = λ s. HasCauses s report.journal.notes in
@@ -79,7 +84,7 @@ returns-in-Ok-clause-causes g c command has =
 
 pub returns-in-Ok-clause-stale : goal.returns-in-Ok-clause-stale
 returns-in-Ok-clause-stale g c command has =
-    let script = c.in-Ok.script in
+    let script = c.in-Ok.found.script in
     let report = c.run_and_write.result in
     let W : List ℕ → Type 0 = λ text. Appends (g.K.Sink.taken c.args.sink.now) (g.K.Sink.taken c.run_and_write.new.sink) text in
     let P : ScriptValue → Type 0 = λ s. AreStaleSeen s report.journal.notes in
@@ -88,7 +93,7 @@ returns-in-Ok-clause-stale g c command has =
 
 pub returns-in-Ok-clause-core : goal.returns-in-Ok-clause-core
 returns-in-Ok-clause-core g c command is =
-    let script = c.in-Ok.script in
+    let script = c.in-Ok.found.script in
     let notes = c.run_and_write.result.journal.notes in
     let W : List ℕ → Type 0 = λ text. Appends (g.K.Sink.taken c.args.sink.now) (g.K.Sink.taken c.run_and_write.new.sink) text in
     let P : ScriptValue → Type 0 = λ s. IsFinishedRun s notes in
@@ -97,7 +102,7 @@ returns-in-Ok-clause-core g c command is =
 
 pub returns-in-Ok-clause-stuck : goal.returns-in-Ok-clause-stuck
 returns-in-Ok-clause-stuck g c command is =
-    let script = c.in-Ok.script in
+    let script = c.in-Ok.found.script in
     let notes = c.run_and_write.result.journal.notes in
     let W : List ℕ → Type 0 = λ text. Appends (g.K.Sink.taken c.args.sink.now) (g.K.Sink.taken c.run_and_write.new.sink) text in
     let P : ScriptValue → Type 0 = λ s. IsStuckRun s notes in
@@ -106,7 +111,7 @@ returns-in-Ok-clause-stuck g c command is =
 
 pub returns-in-Ok-clause-text : goal.returns-in-Ok-clause-text
 returns-in-Ok-clause-text g c command is =
-    let script = c.in-Ok.script in
+    let script = c.in-Ok.found.script in
     let notes = c.run_and_write.result.journal.notes in
     let W : List ℕ → Type 0 = λ text. Appends (g.K.Sink.taken c.args.sink.now) (g.K.Sink.taken c.run_and_write.new.sink) text in
     let P : ScriptValue → Type 0 = λ s. W (text_of s notes) in
@@ -115,7 +120,7 @@ returns-in-Ok-clause-text g c command is =
 
 pub returns-in-Ok-clause-stuck_text : goal.returns-in-Ok-clause-stuck_text
 returns-in-Ok-clause-stuck_text g c command is =
-    let script = c.in-Ok.script in
+    let script = c.in-Ok.found.script in
     let notes = c.run_and_write.result.journal.notes in
     let W : List ℕ → Type 0 = λ text. Appends (g.K.Sink.taken c.args.sink.now) (g.K.Sink.taken c.run_and_write.new.sink) text in
     let P : ScriptValue → Type 0 = λ s. (end : RunState) × IsCoreRun s notes end × W (run_text s notes end) in
@@ -124,7 +129,7 @@ returns-in-Ok-clause-stuck_text g c command is =
 
 pub returns-in-Ok-clause-lines : goal.returns-in-Ok-clause-lines
 returns-in-Ok-clause-lines g c command is =
-    let script = c.in-Ok.script in
+    let script = c.in-Ok.found.script in
     let notes = c.run_and_write.result.journal.notes in
     let P : ScriptValue → Type 0 = λ s. length (outcomes_of notes) ≡ operations s in
     of_script (g.S.Source.remaining c.args.source.now) script P c.one_script.ensures c.in-Ok.ensures.script
@@ -134,14 +139,14 @@ pub returns-in-Ok-clause-text_part : goal.returns-in-Ok-clause-text_part
 returns-in-Ok-clause-text_part g c six command =
     let notes = c.run_and_write.result.journal.notes in
     let P : ScriptValue → Type 0 = λ s. IsPartlyTold s notes (g.K.Sink.taken c.args.sink.now) (g.K.Sink.taken c.run_and_write.new.sink) in
-    of_script (g.S.Source.remaining c.args.source.now) c.in-Ok.script P c.one_script.ensures c.in-Ok.ensures.script (c.run_and_write.ensures.part six)
+    of_script (g.S.Source.remaining c.args.source.now) c.in-Ok.found.script P c.one_script.ensures c.in-Ok.ensures.script (c.run_and_write.ensures.part six)
 
 pub returns-in-Ok-clause-refused_or_ran : goal.returns-in-Ok-clause-refused_or_ran
-returns-in-Ok-clause-refused_or_ran g c six command = inr (c.in-Ok.script, c.in-Ok.ensures.script, c.run_and_write.ensures.part six)
+returns-in-Ok-clause-refused_or_ran g c six command = inr (c.in-Ok.found.script, c.in-Ok.ensures.script, c.run_and_write.ensures.part six)
 
 pub returns-in-Ok-clause-complete : goal.returns-in-Ok-clause-complete
 returns-in-Ok-clause-complete g c command read_well wrote_well =
-    let script = c.in-Ok.script in
+    let script = c.in-Ok.found.script in
     let report = c.run_and_write.result in
     let W : List ℕ → Type 0 = λ text. Appends (g.K.Sink.taken c.args.sink.now) (g.K.Sink.taken c.run_and_write.new.sink) text in
     let P : ScriptValue → Type 0 = λ s. IsEnd s report.status report.journal.notes in

@@ -10,7 +10,7 @@ use Rattle.gup_spec_grammar.specs.Fault.{HasFault}
 use Rattle.gup_spec_grammar.specs.declared.fault.ScriptFault.{ScriptFault}
 use Rattle.gup_io.specs.Faults.{HasCause, EndsInFault}
 use Rattle.gup_io.specs.Transfers.{Loses}
-use Rattle.gup.specs.Report.{OfScript, AreScript, IsScriptOf, IsRefusedFor}
+use Rattle.gup_front.specs.Reading.{OfScript, AreScript, IsScriptOf, IsRefusedFor}
 
 -- a fault that ended the calls was counted
 pub has_cause : (old new : ℕ) (faulted : Bool) → EndsInFault old new faulted → HasCause old new
@@ -24,11 +24,16 @@ whole n v bytes short is = by_test (leb n (length bytes)) refl
     by_test true long = absurd (omega (arith, ap (λ (xs : List ℕ). length xs) is, length-take-le n bytes (leb-true _ _ long)))
     by_test false few = let less = leb-false n (length bytes) few in is ∙ take_all n bytes (omega arith)
 
+-- bytes read that are a script are all that are told
+pub told_text : (told : Option (List ℕ)) (v : List ℕ) (s : ScriptValue) → IfSome told (λ bytes. v ≡ take 1048577 bytes) → Accepts v s → IfSome told (λ bytes. v ≡ bytes)
+told_text None v s read h = tt
+told_text (Some bytes) v s read h = whole 1048577 v bytes (omega (arith, h.1)) read
+
 -- the script that the bytes read are is the one that the told bytes are
 pub told_script : (told : Option (List ℕ)) (v : List ℕ) (s : ScriptValue) → IfSome told (λ bytes. v ≡ take 1048577 bytes) → Accepts v s → IsScriptOf told s
 told_script None v s read h = tt
 told_script (Some bytes) v s read h =
-    subst (λ (b : List ℕ). Accepts b s) (whole 1048577 v bytes (omega (arith, h.1)) read) h
+    subst (λ (b : List ℕ). Accepts b s) (told_text (Some bytes) v s read h) h
 
 -- bytes that are too many are so however far they are read
 told_fault : (bytes v : List ℕ) (fault : ScriptFault) → v ≡ take 1048577 bytes → HasFault v fault → HasFault bytes fault

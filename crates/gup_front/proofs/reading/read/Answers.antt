@@ -2,8 +2,19 @@ use Rattle.std.proofs.Common.{List, ℕ, subst}
 use Rattle.gup_spec_grammar.specs.declared.fault.ReadRefusal.{ReadRefusal}
 use Rattle.gup_spec_grammar.specs.Fault.{HasFault, IsRefusalOf}
 use Rattle.gup_spec_grammar.specs.Grammar.{Accepts}
-use Rattle.gup.proofs.ReadBytes.{told_script, told_refused, loses_first}
-use Rattle.gup.proofs.top.read.Goals as goal
+use Rattle.gup_front.proofs.ReadBytes.{told_text, told_script, told_refused, loses_first}
+use Rattle.gup_front.proofs.reading.read.Goals as goal
+
+pub returns-in-Ok-read_script-clause-accepted : goal.returns-in-Ok-read_script-clause-accepted
+returns-in-Ok-read_script-clause-accepted g c =
+    let P : List ℕ → Type 0 = λ v. Accepts v c.in-Ok-read_script.script in
+    subst P c.as_slice.ensures.value c.in-Ok-read_script.ensures.script
+
+pub returns-in-Ok-read_script-clause-text : goal.returns-in-Ok-read_script-clause-text
+returns-in-Ok-read_script-clause-text g c =
+    let s = c.in-Ok-read_script.script in
+    let P : List ℕ → Type 0 = λ v. Accepts v s in
+    told_text (g.S.Source.remaining c.args.source.now) c.in-Ok.text.items s c.in-Ok.ensures.bytes (subst P c.as_slice.ensures.value c.in-Ok-read_script.ensures.script)
 
 pub returns-in-Ok-read_script-clause-script : goal.returns-in-Ok-read_script-clause-script
 returns-in-Ok-read_script-clause-script g c =
