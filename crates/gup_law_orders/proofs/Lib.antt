@@ -1,0 +1,3 @@
+pub mod OrderRuns
+pub mod ToldLines
+pub mod NumberedNotes
