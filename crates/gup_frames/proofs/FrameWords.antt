@@ -1,7 +1,7 @@
 -- The words of frames in one list.
-use Rattle.std.proofs.Common.{◌≡◌, ◌≢◌, ℕ, ◌+◌, ◌-◌, ◌*◌, ◌<◌, ◌≤◌, eqb, ltb, ◌&&◌, cond, List, length, get_or, set, get_or-set_same, get_or-set_other, ap, sym, ◌∙◌, ⊎_elim, arith}
+use Rattle.std.proofs.Common.{◌≡◌, ◌≢◌, ℕ, ◌+◌, ◌-◌, ◌*◌, ◌<◌, ◌≤◌, eqb, ltb, ◌&&◌, cond, List, length, take, drop, length-drop, get_or, set, get_or-set_same, get_or-set_other, ap, sym, ◌∙◌, ⊎_elim, arith}
 use Rattle.std.proofs.Math.Path.{fun_ext}
-use Rattle.std.proofs.lemmas.List.{get_or_past}
+use Rattle.std.proofs.lemmas.List.{get_or_past, get_or-take, get_or-drop, length-take-le}
 use Rattle.std.proofs.lemmas.Bool.{cases_eq, cases_lt}
 use Rattle.std.proofs.lemmas.Bool.Decides.{nat_tests}
 use Rattle.gup_plain.specs.Put.{put, put2}
@@ -94,3 +94,36 @@ written_word words frame word v within inside = fun_ext (λ f. fun_ext (λ w. at
         let read : get_or (set words (512 * frame + word) v) (512 * f + w) 0 ≡ get_or words (512 * f + w) 0 = get_or-set_other words (512 * frame + word) (512 * f + w) v 0 away in
         grind (arith, nat_tests))
         (cases_eq (512 * f + w) (512 * frame + word))
+
+-- what the list has of a frame's words, and 0 behind it
+pub words_there : (words : List ℕ) (frame first end : ℕ) → first ≤ end → end ≤ length words → end ≤ 512 * frame + 512 → (512 * frame ≤ length words → first ≡ 512 * frame) → (length words < 512 * frame → first ≡ end) → (512 * frame + 512 ≤ length words → end ≡ 512 * frame + 512) → (length words < 512 * frame + 512 → end ≡ length words) → (λ w. get_or (take (end - first) (drop first words)) w 0) ≡ word_in words frame
+words_there words frame first end ordered inside within starts none whole part = fun_ext (λ w. at w)
+  where
+    rest : length (drop first words) ≡ length words - first
+    rest = length-drop first words
+
+    long : length (take (end - first) (drop first words)) ≡ end - first
+    long = length-take-le (end - first) (drop first words) (omega (arith, rest))
+
+    past : (w : ℕ) → end - first ≤ w → get_or (take (end - first) (drop first words)) w 0 ≡ 0
+    past w behind = get_or_past (take (end - first) (drop first words)) w 0 (omega (arith, long))
+
+    at : (w : ℕ) → get_or (take (end - first) (drop first words)) w 0 ≡ word_in words frame w
+    at w =
+        ⊎_elim
+        (λ (there : w < end - first).
+        let here : first ≡ 512 * frame = ⊎_elim (λ (short : length words < 512 * frame). let same = none short in absurd (omega arith)) (λ (long : 512 * frame ≤ length words). starts long) (cases_lt (length words) (512 * frame)) in
+        let read : get_or (take (end - first) (drop first words)) w 0 ≡ get_or words (first + w) 0 =
+        get_or-take (end - first) (drop first words) w 0 there ∙ get_or-drop first words w 0 in
+        let at_word : get_or words (first + w) 0 ≡ get_or words (512 * frame + w) 0 = ap (λ k. get_or words (k + w) 0) here in
+        grind (arith, nat_tests))
+        (λ (behind : end - first ≤ w).
+        let read = past w behind in
+        ⊎_elim
+        (λ (inside : w < 512).
+        let reaches : length words ≤ 512 * frame + w = ⊎_elim (λ (short : length words < 512 * frame). omega arith) (λ (long : 512 * frame ≤ length words). let here = starts long in ⊎_elim (λ (cut : length words < 512 * frame + 512). let same = part cut in omega arith) (λ (all : 512 * frame + 512 ≤ length words). let same = whole all in absurd (omega arith)) (cases_lt (length words) (512 * frame + 512))) (cases_lt (length words) (512 * frame)) in
+        let zero : get_or words (512 * frame + w) 0 ≡ 0 = get_or_past words (512 * frame + w) 0 reaches in
+        grind (arith, nat_tests))
+        (λ (outside : 512 ≤ w). grind (arith, nat_tests))
+        (cases_lt w 512))
+        (cases_lt w (end - first))

@@ -1,5 +1,5 @@
 //! The frames of the machine.
-ghost use Rattle.std.specs.Prelude.{◌≡◌, ℕ, ◌+◌, ◌-◌, ◌<◌, ◌≤◌, ◌^◌, ◌⊎◌, true, if◌then◌else◌, IfOk, IfSome, MatchOption};
+ghost use Rattle.std.specs.Prelude.{◌≡◌, ℕ, ◌+◌, ◌-◌, ◌<◌, ◌≤◌, ◌^◌, ◌⊎◌, true, if◌then◌else◌, length, slice_index, IfOk, IfSome, MatchOption};
 ghost use Rattle.gup_frames.specs.Frames.{frames_of, no_references, IsFrame, zone_of, free_frame, free_of, claimed, taken, with_references, without_references, with_mark, with_word, copied};
 
 use crate::bitmap::Bitmap;
@@ -132,6 +132,17 @@ impl Frames {
         ensures { result ≡ (frames_of self.now).word frame word }
     {
         words::read(&self.words, frame.get() as usize, word)
+    }
+
+    /// The words of the frame, from its first one on. Words that are left out at the end are 0: of a frame that was never
+    /// written it may be all of them.
+    #[inline]
+    pub fn words(&self, frame: FrameNo) -> &[u64]
+        requires { IsFrame (frames_of self.now) frame }
+        ensures words { slice_index result.now ≡ (frames_of self.now).word frame }
+        ensures few { length result.now ≤ 512 }
+    {
+        words::of_frame(&self.words, frame.get() as usize)
     }
 
     /// A law: a frame that has a reference is there, and so is one that is marked, or has a word that isn't 0.

@@ -1,6 +1,6 @@
 //! The words of all frames, in one list: 512 of each, one frame after another. The list has room for all from the start, and
 //! ends with the last frame that was written so far: the words past its end are 0, and their memory isn't touched.
-ghost use Rattle.std.specs.Prelude.{◌≡◌, ℕ, ◌+◌, ◌*◌, ◌<◌, ◌≤◌, vec_len, vec_capacity};
+ghost use Rattle.std.specs.Prelude.{◌≡◌, ℕ, ◌+◌, ◌*◌, ◌<◌, ◌≤◌, length, slice_index, vec_len, vec_capacity};
 ghost use Rattle.gup_plain.specs.Put.{put, put2};
 ghost use Rattle.gup_frames.specs.Frames.{word_in};
 
@@ -57,6 +57,18 @@ pub(crate) fn read(words: &[u64], frame: usize, word: WordNo) -> u64
         Some(v) => *v,
         None => 0,
     }
+}
+
+/// The words of the frame that the list reaches: those past its end are 0.
+#[inline]
+pub(crate) fn of_frame(words: &[u64], frame: usize) -> &[u64]
+    requires { frame < 1024 }
+    ensures words { slice_index result.now ≡ word_in words.now frame }
+    ensures few { length result.now ≤ 512 }
+{
+    let first = of_frames(frame).min(words.len());
+    let end = of_frames(frame + 1).min(words.len());
+    &words[first..end]
 }
 
 // Writes the word of a frame that the list may not reach yet.

@@ -3,14 +3,11 @@ ghost use Rattle.std.specs.Prelude.{◌≡◌, ◌++◌, ◌<◌, ◌≤◌, OnO
 ghost use Rattle.gup_plain.specs.Event.{words};
 ghost use Rattle.gup_frames.specs.Frames.{frames_of, frames_in, IsFrame};
 ghost use Rattle.gup_image.specs.Gathered.{gathered};
-ghost use Rattle.gup_image.specs.Image.{frame_fact, words_of_frame, frame_facts};
+ghost use Rattle.gup_image.specs.Image.{frame_fact, word_fact, words_of_frame, frame_facts};
 
 use crate::fact::{Fact, KeptFact, put};
 use gup_base::{FrameNo, NoMemory, WordNo};
 use gup_frames::Frames;
-
-// How many words a frame has.
-const WORDS: u16 = 512;
 
 /// Those of all frames.
 pub(crate) fn push_frames(facts: &mut Vec<KeptFact>, frames: &Frames) -> Result<(), NoMemory>
@@ -58,32 +55,29 @@ fn push_words(facts: &mut Vec<KeptFact>, frames: &Frames, frame: FrameNo) -> Res
     ensures { OnOk result (facts.new.items
         ≡ facts.old.items ++ gathered (words_of_frame (frames_of frames.now) frame) words) }
 {
-    for w in 0..WORDS {
-        push_word(facts, frames, frame, word_no(w))?;
+    for (w, value) in frames.words(frame).iter().enumerate() {
+        push_word(facts, frame, word_no(w), *value)?;
     }
     Ok(())
 }
 
 #[inline]
-fn word_no(w: u16) -> WordNo
+fn word_no(w: usize) -> WordNo
     requires { w < 512 }
     ensures { result ≡ w }
 {
-    WordNo::new(u64::from(w)).unwrap()
+    WordNo::new(w as u64).unwrap()
 }
 
 #[inline]
 fn push_word(
     facts: &mut Vec<KeptFact>,
-    frames: &Frames,
     frame: FrameNo,
     word: WordNo,
+    value: u64,
 ) -> Result<(), NoMemory>
-    requires { IsFrame (frames_of frames.now) frame }
-    ensures { OnOk result (facts.new.items
-        ≡ facts.old.items ++ words_of_frame (frames_of frames.now) frame word) }
+    ensures { OnOk result (facts.new.items ≡ facts.old.items ++ word_fact frame word value) }
 {
-    let value = frames.word(frame, word);
     if value > 0 {
         put(facts, Fact::Word { frame, word, value })?;
     }
