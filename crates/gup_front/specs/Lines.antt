@@ -22,6 +22,7 @@ reason_text reasons.Twice = codes "twice"
 reason_text reasons.Limit = codes "limit"
 reason_text reasons.Later = codes "later"
 reason_text reasons.Short = codes "short"
+reason_text reasons.Note = codes "note"
 
 -- what is written where the script is refused
 abbrev pub refusal_text : ScriptFault → List ℕ

@@ -13,6 +13,16 @@ abbrev pub OfScript : Option (List ℕ) → (ScriptValue → Type 0) → Type 0
 OfScript None P = Unit {0}
 OfScript (Some bytes) P = (script : ScriptValue) → Accepts bytes script → P script
 
+-- the same of the bytes and the script
+abbrev pub OfText : Option (List ℕ) → (List ℕ → ScriptValue → Type 0) → Type 0
+OfText None P = Unit {0}
+OfText (Some bytes) P = (script : ScriptValue) → Accepts bytes script → P bytes script
+
+-- where the source tells its bytes, they are these
+abbrev pub AreBytes : Option (List ℕ) → List ℕ → Type 0
+AreBytes None bytes = Unit {0}
+AreBytes (Some told) bytes = bytes ≡ told
+
 -- Where the source tells its bytes, they are a script.
 abbrev pub AreScript : Option (List ℕ) → Type 0
 AreScript None = Unit {0}

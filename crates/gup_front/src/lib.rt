@@ -6,4 +6,4 @@ mod reading;
 mod text;
 
 pub use reading::{ReadScript, Unread, read};
-pub use text::{push_stuck_line, push_text, refusal_line};
+pub use text::{push_stuck_line, refusal_line};

@@ -5,11 +5,10 @@ ghost use Rattle.gup_lines.specs.Text.{NamesWaiting};
 ghost use Rattle.gup_front.specs.Lines.{reason_text, refusal_text, stuck_of};
 
 use gup_base::{ActorNo, NoMemory};
-use gup_lines::push_stuck;
+use gup_lines::{push_number, push_stuck, push_text};
 use gup_plain::Waiting;
 use gup_script::Script;
 use gup_spec_grammar::{Reason, ScriptFault};
-use itoa::Buffer;
 use std::alloc::Global;
 
 /// Appends the line of an actor, if it waits: for a process or a handle of the script.
@@ -28,22 +27,13 @@ pub fn push_stuck_line(
     }
 }
 
-/// Appends the piece.
-pub fn push_text(text: &mut Vec<u8>, piece: &str) -> Result<(), NoMemory>
-    ensures { OnOk result (text.new.items ≡ text.old.items ++ piece.now) }
-{
-    text.extend_from_slice(piece.as_bytes())?;
-    Ok(())
-}
-
 /// The line of a refused script: `line n: reason`.
 pub fn refusal_line(alloc: Global, fault: ScriptFault) -> Result<Vec<u8>, NoMemory>
     ensures { IfOk result (λ text. text.items ≡ refusal_text fault) }
 {
     let mut text = Vec::new(alloc);
-    let mut number = Buffer::new();
     push_text(&mut text, "line ")?;
-    push_text(&mut text, number.format(u64::from(fault.line)))?;
+    push_number(&mut text, u64::from(fault.line))?;
     push_text(&mut text, ": ")?;
     push_text(&mut text, reason_name(fault.reason))?;
     push_text(&mut text, "\n")?;
@@ -68,5 +58,6 @@ fn reason_name(reason: Reason) -> &'static str
         Reason::Limit => "limit",
         Reason::Later => "later",
         Reason::Short => "short",
+        Reason::Note => "note",
     }
 }

@@ -7,11 +7,12 @@ ghost use Rattle.gup_lines.specs.Moved.{words_of, moved_after};
 ghost use Rattle.gup_lines.specs.Text.{text_of, name_in, process_name, handle_name, cause_text, word_text, answer_text, head_of, line_of, waiting_text, stuck_line, word_in, moved_by, words_after, outcome_of, outcomes_of, NamesWaiting, BeginsWith};
 
 use crate::kept::Moved;
+use crate::names::{handle_name, name_of, process_name};
 use crate::outcome::{Outcome, Outcomes};
-use gup_base::{ActorNo, HandleNo, NoMemory, ProcNo, Words};
+use crate::pieces::{push_number, push_text, write_number};
+use gup_base::{ActorNo, NoMemory, Words};
 use gup_plain::{Answer, Cause, Journal, Note, PlainEvent, Waiting, What};
 use gup_script::Script;
-use itoa::Buffer;
 use std::alloc::Global;
 
 /// The answers of the script's journal, in order, each with the words that its own actor's operation has moved.
@@ -188,33 +189,6 @@ fn is_plain(note: &Note) -> bool
     matches!(note.what(), What::Done(Answer::Plain))
 }
 
-#[inline(always)]
-fn push_text(text: &mut Vec<u8>, piece: &str) -> Result<(), NoMemory>
-    ensures ok { OnOk result (text.new.items ≡ text.old.items ++ piece.now) }
-    ensures err { OnErr result (text.new.items ≡ text.old.items) }
-{
-    text.extend_from_slice(piece.as_bytes())?;
-    Ok(())
-}
-
-#[inline(never)]
-fn push_number(text: &mut Vec<u8>, n: u64) -> Result<(), NoMemory>
-    ensures ok { OnOk result (text.new.items ≡ text.old.items ++ decimal n) }
-    ensures err { OnErr result (text.new.items ≡ text.old.items) }
-{
-    write_number(text, n)
-}
-
-// The same, without a call: where a line has one number at least, and where words follow one another.
-#[inline(always)]
-fn write_number(text: &mut Vec<u8>, n: u64) -> Result<(), NoMemory>
-    ensures ok { OnOk result (text.new.items ≡ text.old.items ++ decimal n) }
-    ensures err { OnErr result (text.new.items ≡ text.old.items) }
-{
-    let mut buffer = Buffer::new();
-    push_text(text, buffer.format(n))
-}
-
 #[tactic(auto, using(crate::proofs::Fronts::fronts))]
 fn push_cause(text: &mut Vec<u8>, cause: Cause) -> Result<(), NoMemory>
     ensures ok { OnOk result (text.new.items ≡ text.old.items ++ cause_text cause) }
@@ -317,39 +291,6 @@ pub fn push_answer(text: &mut Vec<u8>, answer: Answer, words: &[u64]) -> Result<
         Answer::Untouched => push_text(text, "untouched"),
         Answer::Stale => push_text(text, "stale"),
         Answer::Unborn => push_text(text, "unborn"),
-    }
-}
-
-// The actor's name; nothing where no such actor is declared.
-fn name_of(script: &Script, actor: ActorNo) -> &str
-    ensures { result.now ≡ name_in (actor_at script.now actor) }
-{
-    if actor.get() < u64::from(script.actors()) {
-        script.name_of(actor)
-    } else {
-        ""
-    }
-}
-
-// The process's name; nothing where no such process is declared.
-fn process_name(script: &Script, p: ProcNo) -> &str
-    ensures { result.now ≡ process_name (process_at script.now p) }
-{
-    if p.get() < u64::from(script.processes()) {
-        script.process_name(p)
-    } else {
-        ""
-    }
-}
-
-// The handle's name; nothing where no such handle is declared.
-fn handle_name(script: &Script, h: HandleNo) -> &str
-    ensures { result.now ≡ handle_name (handle_at script.now h) }
-{
-    if h.get() < u64::from(script.handles()) {
-        script.handle_name(h)
-    } else {
-        ""
     }
 }
 

@@ -49,7 +49,7 @@ impl Found {
         Ok(Found {
             outcomes,
             states: explored.states,
-            is_open: explored.open,
+            is_open: explored.is_open,
         })
     }
 

@@ -7,7 +7,7 @@ ghost use Rattle.gup_orders.specs.declared.turns.Repeat.{Repeat as RepeatValue};
 ghost use Rattle.gup_orders.specs.Turns.{repeats, before_all, repeat_text, times_text, turns_text};
 
 use gup_base::{ActorNo, NoMemory};
-use gup_front::push_text;
+use gup_lines::push_text;
 use gup_script::Script;
 use itoa::Buffer;
 use std::alloc::Global;

@@ -16,7 +16,7 @@ use std::alloc::Global;
 pub struct Explored {
     pub outcomes: Vec<Outcome>,
     pub states: usize,
-    pub open: bool,
+    pub is_open: bool,
 }
 
 /// Explores every order of the turns of the script's actors, from the start, or behind the written turns, of which each is taken as in a
@@ -30,11 +30,11 @@ pub fn explore(
     limit: usize,
 ) -> Result<Explored, NoMemory>
     ensures happen { IfOk result (λ found. AreOfOrders script.now behind named.now found.outcomes.items) }
-    ensures all { IfOk result (λ found. found.open ≡ false → AreOfAllOrders script.now behind named.now found.outcomes.items) }
-    ensures open { IfOk result (λ found. found.open ≡ true → found.states ≡ limit) }
-    ensures states { IfOk result (λ found. ReachesStates script.now behind named.now (if found.open then limit + 1 else found.states)) }
-    ensures few { IfOk result (λ found. found.open ≡ false → found.states ≤ limit) }
-    ensures no_others { IfOk result (λ found. found.open ≡ false → ReachesAllStates script.now behind named.now found.states) }
+    ensures all { IfOk result (λ found. found.is_open ≡ false → AreOfAllOrders script.now behind named.now found.outcomes.items) }
+    ensures full { IfOk result (λ found. found.is_open ≡ true → found.states ≡ limit) }
+    ensures states { IfOk result (λ found. ReachesStates script.now behind named.now (if found.is_open then limit + 1 else found.states)) }
+    ensures few { IfOk result (λ found. found.is_open ≡ false → found.states ≤ limit) }
+    ensures no_others { IfOk result (λ found. found.is_open ≡ false → ReachesAllStates script.now behind named.now found.states) }
 {
     let task = Task {
         script,
@@ -52,6 +52,6 @@ pub fn explore(
     Ok(Explored {
         outcomes: ends.into_outcomes(),
         states: graph.len(),
-        open: graph.is_open(),
+        is_open: graph.is_open(),
     })
 }

@@ -31,6 +31,8 @@ pub enum Reason {
     Later,
     /// The text ends before its `frames` line. The line is the one after the last.
     Short,
+    /// In a trace, a line behind `journal` that is no note. No script is refused so.
+    Note,
 }
 
 /// The first fault of a text that is no script: its line, from 1, or 0 for the text as a whole, and the reason.

@@ -86,7 +86,7 @@ fn waits_for_a_pin(waits: &[Option<Waiting>], actor: usize) -> bool {
 #[test]
 fn a_walk_beside_a_move_has_seven_outcomes(rt: HostRuntime) -> Result<(), Fail> {
     let found = explored(rt.alloc(), WALK_AND_MOVE, false, 10_000)?;
-    assert!(rt; !found.open);
+    assert!(rt; !found.is_open);
     assert_eq!(rt; found.outcomes.len(), 7);
     Ok(())
 }
@@ -94,7 +94,7 @@ fn a_walk_beside_a_move_has_seven_outcomes(rt: HostRuntime) -> Result<(), Fail> 
 #[test]
 fn behind_its_map_and_store_a_walk_pins_or_the_page_is_moved(rt: HostRuntime) -> Result<(), Fail> {
     let found = explored(rt.alloc(), WALK_AND_MOVE, true, 10_000)?;
-    assert!(rt; !found.open);
+    assert!(rt; !found.is_open);
     for outcome in found.outcomes.iter() {
         // The pin is never refused, and a move that is refused found the walk's 1,024.
         assert_eq!(rt; answer(outcome, 2), Some(Answer::Pinned(1)));
@@ -108,7 +108,7 @@ fn behind_its_map_and_store_a_walk_pins_or_the_page_is_moved(rt: HostRuntime) ->
 #[test]
 fn stores_beside_a_fork_have_six_outcomes(rt: HostRuntime) -> Result<(), Fail> {
     let found = explored(rt.alloc(), STORE_AND_FORK, false, 10_000)?;
-    assert!(rt; !found.open);
+    assert!(rt; !found.is_open);
     assert_eq!(rt; found.outcomes.len(), 6);
     Ok(())
 }
@@ -116,7 +116,7 @@ fn stores_beside_a_fork_have_six_outcomes(rt: HostRuntime) -> Result<(), Fail> {
 #[test]
 fn a_device_reads_what_its_owner_wrote_before_or_after(rt: HostRuntime) -> Result<(), Fail> {
     let found = explored(rt.alloc(), DEVICE, false, 10_000)?;
-    assert!(rt; !found.open);
+    assert!(rt; !found.is_open);
     assert_eq!(rt; found.outcomes.len(), 2);
     let mut words = Vec::new(rt.alloc());
     for outcome in found.outcomes.iter() {
@@ -135,7 +135,7 @@ fn a_device_reads_what_its_owner_wrote_before_or_after(rt: HostRuntime) -> Resul
 #[test]
 fn a_stuck_order_is_an_outcome(rt: HostRuntime) -> Result<(), Fail> {
     let found = explored(rt.alloc(), NEVER_GIVEN, false, 10_000)?;
-    assert!(rt; !found.open);
+    assert!(rt; !found.is_open);
     assert_eq!(rt; found.outcomes.len(), 2);
     let mut stuck = 0_u8;
     for outcome in found.outcomes.iter() {
@@ -152,7 +152,7 @@ fn a_stuck_order_is_an_outcome(rt: HostRuntime) -> Result<(), Fail> {
 fn a_limit_leaves_a_search_open(rt: HostRuntime) -> Result<(), Fail> {
     for limit in [0, 1, 20] {
         let found = explored(rt.alloc(), STORE_AND_FORK, false, limit)?;
-        assert!(rt; found.open);
+        assert!(rt; found.is_open);
         assert_eq!(rt; found.states, limit);
     }
     Ok(())
@@ -162,12 +162,12 @@ fn a_limit_leaves_a_search_open(rt: HostRuntime) -> Result<(), Fail> {
 fn a_search_with_just_enough_room_is_not_open(rt: HostRuntime) -> Result<(), Fail> {
     for limit in [4, 5, 10_000] {
         let found = explored(rt.alloc(), TWO_MAPS, false, limit)?;
-        assert!(rt; !found.open);
+        assert!(rt; !found.is_open);
         assert_eq!(rt; found.states, 4);
         assert_eq!(rt; found.outcomes.len(), 1);
     }
     let found = explored(rt.alloc(), TWO_MAPS, false, 3)?;
-    assert!(rt; found.open);
+    assert!(rt; found.is_open);
     assert_eq!(rt; found.states, 3);
     Ok(())
 }
@@ -175,7 +175,7 @@ fn a_search_with_just_enough_room_is_not_open(rt: HostRuntime) -> Result<(), Fai
 #[test]
 fn each_turn_of_one_thread_leads_to_a_state(rt: HostRuntime) -> Result<(), Fail> {
     let found = explored(rt.alloc(), MAP_AND_STORE, false, 10_000)?;
-    assert!(rt; !found.open);
+    assert!(rt; !found.is_open);
     assert_eq!(rt; found.states, 3);
     assert_eq!(rt; found.outcomes.len(), 1);
     Ok(())

@@ -24,7 +24,7 @@ loop-k-preserved c =
       | else-k-eq0 w ↦ front_later k c.if-k-eq0.push_text.now w.if-k-eq0.false (ap (λ (b : Bor (List ℕ)). b.now) w.push_text-is)
     ] in
     c.in_ok-push_line_text.ensures
-    ∙ ap (λ (t : List ℕ). t ++ line_text script line) (c.in_ok-push_text.ensures ∙ ap (λ (w : List ℕ). c.loop-k.text.items ++ w) word ∙ ap (λ (t : List ℕ). t ++ (before_piece k ++ codes " ")) c.loop-k.invariant)
+    ∙ ap (λ (t : List ℕ). t ++ line_text script line) (c.in_ok-push_text.ensures.ok ∙ ap (λ (w : List ℕ). c.loop-k.text.items ++ w) word ∙ ap (λ (t : List ℕ). t ++ (before_piece k ++ codes " ")) c.loop-k.invariant)
     ∙ append_assoc (c.args.text.now.items ++ so_far) (before_piece k ++ codes " ") (line_text script line)
     ∙ append_assoc c.args.text.now.items so_far ((before_piece k ++ codes " ") ++ line_text script line)
     ∙ ap (λ (t : List ℕ). c.args.text.now.items ++ (so_far ++ t)) (append_assoc (before_piece k) (codes " ") (line_text script line))
