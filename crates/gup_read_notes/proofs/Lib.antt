@@ -1,0 +1,10 @@
+pub mod FoundFields
+pub mod FoundNotes
+pub mod Lines
+pub mod Named
+pub mod Places
+pub mod PlainWords
+pub mod ReadFields
+pub mod ReadNotes
+pub mod Steps
+pub mod Words
