@@ -1,0 +1,9 @@
+mod Beginnings
+mod TurnsInOrder
+mod SaidNotes
+mod JudgedTurns
+mod StandingNotes
+mod TurnPasses
+mod ForkGoings
+mod ForkSteps
+mod RunPasses

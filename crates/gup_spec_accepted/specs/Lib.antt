@@ -1,0 +1,5 @@
+pub mod Said
+pub mod Turns
+pub mod Waits
+pub mod Passing
+pub mod Accepted
