@@ -1,12 +1,16 @@
 -- Which words are which command.
-use Rattle.std.proofs.Common.{◌≡◌, ℕ, ◌<◌, ◌≤◌, true, List, [], ◌∷◌, Some, None, map, length, get_or, sym, ap, ap₂, ◌∙◌, arith, inl, inr}
+use Rattle.std.proofs.Common.{◌≡◌, ℕ, ◌<◌, ◌≤◌, true, List, [], ◌∷◌, Some, None, map, length, get_or, refl, sym, ap, ap₂, subst, ◌∙◌, arith, inl, inr}
 use Rattle.std.specs.Prelude.{codes, decimal}
 use Rattle.std.specs.Str.{bytes_eq}
 use Rattle.std.proofs.lemmas.Slice.Eq.{bytes_eq-Decides}
 use Rattle.std.proofs.lemmas.Fmt.{decimal_injective}
 use Rattle.gup_read_words.specs.Text.{number_in}
 use Rattle.gup_read_words.proofs.SpelledNumbers.{number_found, decimal_read}
-use Rattle.gup.specs.Report.{IsRun, IsMake, IsCommand}
+use Rattle.gup.specs.Report.{IsToldIn, RunsScript, IsMake, IsCommand, IsAsked}
+use Rattle.gup.specs.declared.command.Command.{Command}
+use Rattle.gup.specs.declared.command.Command.TheVariants.{Run}
+use Rattle.gup.specs.declared.command.Format.{Format}
+use Rattle.gup.specs.declared.command.Format.TheVariants.{Answers, Trace}
 
 -- lists of one and of two
 
@@ -21,9 +25,14 @@ two_of f (a ∷ []) x y some few is next = absurd (omega arith)
 two_of f (a ∷ b ∷ []) x y some few is next = ap₂ (λ v w. f v ∷ f w ∷ []) (sym is) (sym next)
 two_of f (a ∷ b ∷ c ∷ xs) x y some few is next = absurd (omega arith)
 
--- the words of `run`
-pub run_words : (words : List (List ℕ)) (word : List ℕ) → words ≡ word ∷ [] → bytes_eq word (codes "run") ≡ true → IsRun words
-run_words words word are same = are ∙ ap (λ w. w ∷ []) ((bytes_eq-Decides word (codes "run")).0 same)
+-- one word asks for a run
+pub asked_words : (words : List (List ℕ)) (word : List ℕ) (format : Format) → words ≡ word ∷ [] → IsToldIn (word ∷ []) format → IsToldIn words format
+asked_words words word format are told = subst (λ (w : List (List ℕ)). IsToldIn w format) (sym are) told
+
+-- or for nothing
+pub one_no_command : (words : List (List ℕ)) (word : List ℕ) → words ≡ word ∷ [] → (RunsScript (word ∷ []) → ⊥) → IsCommand words → ⊥
+one_no_command words word are none (inl run) = none (subst RunsScript are run)
+one_no_command words word are none (inr made) = let e = sym are ∙ made.1.0 in absurd (cc)
 
 -- those of `make`, by the number that was read
 pub make_words : (words : List (List ℕ)) (word count : List ℕ) (n : ℕ) → words ≡ word ∷ count ∷ [] → bytes_eq word (codes "make") ≡ true → number_in count ≡ Some n → IsMake words n
@@ -33,7 +42,8 @@ make_words words word count n are same read =
 
 -- where no number was read, they are none
 pub no_number : (words : List (List ℕ)) (word count : List ℕ) → words ≡ word ∷ count ∷ [] → number_in count ≡ None → IsCommand words → ⊥
-no_number words word count are unread (inl run) = let e = sym are ∙ run in absurd (cc)
+no_number words word count are unread (inl (inl run)) = let e = sym are ∙ run in absurd (cc)
+no_number words word count are unread (inl (inr traced)) = let e = sym are ∙ traced in absurd (cc)
 no_number words word count are unread (inr made) =
     let e = sym are ∙ made.1.0 in
     let spelled : count ≡ decimal made.0 = cc in
@@ -42,11 +52,31 @@ no_number words word count are unread (inr made) =
 
 -- no words are two commands
 
-pub not_both : (words : List (List ℕ)) (n : ℕ) → IsRun words → IsMake words n → ⊥
-not_both words n run made = let e = sym run ∙ made.0 in absurd (cc)
+pub not_both : (words : List (List ℕ)) (n : ℕ) → RunsScript words → IsMake words n → ⊥
+not_both words n (inl run) made = let e = sym run ∙ made.0 in absurd (cc)
+not_both words n (inr traced) made = let e = sym traced ∙ made.0 in absurd (cc)
+
+-- a format is of a command that runs the source's script
+pub runs_told : (words : List (List ℕ)) (format : Format) → IsToldIn words format → RunsScript words
+runs_told words Answers told = inl told
+runs_told words Trace told = inr told
+
+pub not_told : (words : List (List ℕ)) (format : Format) (n : ℕ) → IsToldIn words format → IsMake words n → ⊥
+not_told words format n told made = not_both words n (runs_told words format told) made
+
+-- and of one only
+pub one_format : (words : List (List ℕ)) (f g : Format) → IsToldIn words f → IsToldIn words g → f ≡ g
+one_format words Answers Answers here there = refl
+one_format words Trace Trace here there = refl
+one_format words Answers Trace here there = let e : codes "run" ∷ [] ≡ codes "trace" ∷ [] = sym here ∙ there in absurd (cc)
+one_format words Trace Answers here there = let e : codes "trace" ∷ [] ≡ codes "run" ∷ [] = sym here ∙ there in absurd (cc)
 
 pub one_number : (words : List (List ℕ)) (n m : ℕ) → IsMake words n → IsMake words m → n ≡ m
 one_number words n m here there =
     let e = sym here.0 ∙ there.0 in
     let same : decimal n ≡ decimal m = cc in
     decimal_injective n m here.1 there.1 same
+
+-- the format that the words ask for is the one that was read
+pub asked_format : (words : List (List ℕ)) (command : Command) (f g : Format) → command ≡ Run f → IsAsked words command → IsToldIn words g → f ≡ g
+asked_format words command f g is asked told = one_format words f g (subst (IsAsked words) is asked) told

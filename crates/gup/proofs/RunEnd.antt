@@ -11,7 +11,10 @@ use Rattle.gup_spec_turns.specs.Cause.{HaveFinished, WaitsForBirthOrPin}
 use Rattle.gup_spec_turns.specs.Run.{RunState, op_in, waiting_with, waiting_in, is_ready, can_go, IsCoreRun}
 use Rattle.gup_lines.specs.Text.{NamesWaiting, text_of}
 use Rattle.gup_front.specs.Lines.{stuck_of}
-use Rattle.gup.specs.Report.{HasRun, IsRunOf, IsToldRun, IsEnd}
+use Rattle.gup.specs.Report.{HasRun, IsRunOf, IsToldRun, IsEnd, text_in}
+use Rattle.gup_spec_trace.specs.Trace.{trace_text}
+use Rattle.gup.specs.declared.command.Format.{Format}
+use Rattle.gup.specs.declared.command.Format.TheVariants.{Answers, Trace}
 use Rattle.gup.specs.Stuck.{IsFinishedRun, IsStuckRun, AreWaiting, stuck_lines, run_text}
 
 -- an actor that has finished has no operation left, and one that hasn't has one
@@ -61,28 +64,36 @@ finished_text script notes end finished =
     ap (λ (l : List ℕ). text_of script notes ++ l) (none_stuck script end (length script.actors) (omega arith) finished) ∙ append-nil (text_of script notes)
 
 -- what is so of a script that has run is so whether actors are stuck or not
-abbrev pub IsWrittenRun : ScriptValue → List NoteValue → (stuck : Bool) → (List ℕ → Type 0) → Type 0
-IsWrittenRun script notes stuck IsWritten = (text : List ℕ) × IsToldRun script stuck notes text × IsWritten text
+abbrev pub IsWrittenRun : Format → (bytes : List ℕ) → ScriptValue → List NoteValue → (stuck : Bool) → (List ℕ → Type 0) → Type 0
+IsWrittenRun format bytes script notes stuck IsWritten = (text : List ℕ) × IsToldRun format bytes script stuck notes text × IsWritten text
 
-pub ran : (script : ScriptValue) (notes : List NoteValue) (status : ℕ) (IsWritten : List ℕ → Type 0) (P : Type 0) → (status ≡ 0 → IsWrittenRun script notes false IsWritten) → (status ≡ 4 → IsWrittenRun script notes true IsWritten) → ((stuck : Bool) (end : RunState) → IsRunOf script stuck notes end → P) → HasRun status → P
-ran script notes status IsWritten P finished stuck each (inl zero_is) = let told = finished zero_is in each false told.1.0 told.1.1
-ran script notes status IsWritten P finished stuck each (inr four_is) = let told = stuck four_is in each true told.1.0 told.1.1
+pub ran : (format : Format) (bytes : List ℕ) (script : ScriptValue) (notes : List NoteValue) (status : ℕ) (IsWritten : List ℕ → Type 0) (P : Type 0) → (status ≡ 0 → IsWrittenRun format bytes script notes false IsWritten) → (status ≡ 4 → IsWrittenRun format bytes script notes true IsWritten) → ((stuck : Bool) (end : RunState) → IsRunOf script stuck notes end → P) → HasRun status → P
+ran format bytes script notes status IsWritten P finished stuck each (inl zero_is) = let told = finished zero_is in each false told.1.0 told.1.1
+ran format bytes script notes status IsWritten P finished stuck each (inr four_is) = let told = stuck four_is in each true told.1.0 told.1.1
 
-pub finished_written : (script : ScriptValue) (notes : List NoteValue) (IsWritten : List ℕ → Type 0) → IsWrittenRun script notes false IsWritten → IsWritten (text_of script notes)
-finished_written script notes IsWritten told = subst IsWritten (told.1.2 ∙ finished_text script notes told.1.0 told.1.1.ends) told.2
+pub finished_written : (format : Format) (bytes : List ℕ) (script : ScriptValue) (notes : List NoteValue) (IsWritten : List ℕ → Type 0) → format ≡ Answers → IsWrittenRun format bytes script notes false IsWritten → IsWritten (text_of script notes)
+finished_written format bytes script notes IsWritten is told = subst IsWritten (told.1.2 ∙ ap (λ (f : Format). text_in f bytes script notes told.1.0) is ∙ finished_text script notes told.1.0 told.1.1.ends) told.2
 
-pub stuck_written : (script : ScriptValue) (notes : List NoteValue) (IsWritten : List ℕ → Type 0) → IsWrittenRun script notes true IsWritten → (end : RunState) × IsCoreRun script notes end × IsWritten (run_text script notes end)
-stuck_written script notes IsWritten told = (told.1.0, told.1.1.core, subst IsWritten told.1.2 told.2)
+pub stuck_written : (format : Format) (bytes : List ℕ) (script : ScriptValue) (notes : List NoteValue) (IsWritten : List ℕ → Type 0) → format ≡ Answers → IsWrittenRun format bytes script notes true IsWritten → (end : RunState) × IsCoreRun script notes end × IsWritten (run_text script notes end)
+stuck_written format bytes script notes IsWritten is told = (told.1.0, told.1.1.core, subst IsWritten (told.1.2 ∙ ap (λ (f : Format). text_in f bytes script notes told.1.0) is) told.2)
 
-pub finished_run : (script : ScriptValue) (notes : List NoteValue) (IsWritten : List ℕ → Type 0) → IsWrittenRun script notes false IsWritten → IsFinishedRun script notes
-finished_run script notes IsWritten told = (told.1.0, told.1.1.core, told.1.1.ends)
+pub finished_run : (format : Format) (bytes : List ℕ) (script : ScriptValue) (notes : List NoteValue) (IsWritten : List ℕ → Type 0) → IsWrittenRun format bytes script notes false IsWritten → IsFinishedRun script notes
+finished_run format bytes script notes IsWritten told = (told.1.0, told.1.1.core, told.1.1.ends)
 
-pub stuck_run : (script : ScriptValue) (notes : List NoteValue) (IsWritten : List ℕ → Type 0) → IsWrittenRun script notes true IsWritten → IsStuckRun script notes
-stuck_run script notes IsWritten told = (told.1.0, told.1.1.core, told.1.1.ends, told.1.1.waits)
+pub stuck_run : (format : Format) (bytes : List ℕ) (script : ScriptValue) (notes : List NoteValue) (IsWritten : List ℕ → Type 0) → IsWrittenRun format bytes script notes true IsWritten → IsStuckRun script notes
+stuck_run format bytes script notes IsWritten told = (told.1.0, told.1.1.core, told.1.1.ends, told.1.1.waits)
+
+-- the trace of a run that was written
+traced : (format : Format) (bytes : List ℕ) (script : ScriptValue) (notes : List NoteValue) (stuck : Bool) (IsWritten : List ℕ → Type 0) → format ≡ Trace → IsWrittenRun format bytes script notes stuck IsWritten → IsWritten (trace_text bytes script notes)
+traced format bytes script notes stuck IsWritten is told = subst IsWritten (told.1.2 ∙ ap (λ (f : Format). text_in f bytes script notes told.1.0) is) told.2
+
+pub traced_written : (format : Format) (bytes : List ℕ) (script : ScriptValue) (notes : List NoteValue) (status : ℕ) (IsWritten : List ℕ → Type 0) → format ≡ Trace → (status ≡ 0 → IsWrittenRun format bytes script notes false IsWritten) → (status ≡ 4 → IsWrittenRun format bytes script notes true IsWritten) → HasRun status → IsWritten (trace_text bytes script notes)
+traced_written format bytes script notes status IsWritten is finished stuck (inl zero_is) = traced format bytes script notes false IsWritten is (finished zero_is)
+traced_written format bytes script notes status IsWritten is finished stuck (inr four_is) = traced format bytes script notes true IsWritten is (stuck four_is)
 
 -- the end of a run, by its status
-pub ended : (script : ScriptValue) (notes : List NoteValue) (status : ℕ) (IsWritten : List ℕ → Type 0) → (status ≡ 0 → IsWrittenRun script notes false IsWritten) → (status ≡ 4 → IsWrittenRun script notes true IsWritten) → HasRun status → IsEnd script status notes
-ended script notes status IsWritten finished stuck (inl zero_is) =
+pub ended : (format : Format) (bytes : List ℕ) (script : ScriptValue) (notes : List NoteValue) (status : ℕ) (IsWritten : List ℕ → Type 0) → (status ≡ 0 → IsWrittenRun format bytes script notes false IsWritten) → (status ≡ 4 → IsWrittenRun format bytes script notes true IsWritten) → HasRun status → IsEnd script status notes
+ended format bytes script notes status IsWritten finished stuck (inl zero_is) =
     let told = finished zero_is in
-    inl (zero_is, finished_run script notes IsWritten told, told.1.1.lines refl)
-ended script notes status IsWritten finished stuck (inr four_is) = inr (inl (four_is, stuck_run script notes IsWritten (stuck four_is)))
+    inl (zero_is, finished_run format bytes script notes IsWritten told, told.1.1.lines refl)
+ended format bytes script notes status IsWritten finished stuck (inr four_is) = inr (inl (four_is, stuck_run format bytes script notes IsWritten (stuck four_is)))

@@ -11,12 +11,16 @@ use Rattle.gup_lines.specs.Text.{outcomes_of}
 use Rattle.gup_io.specs.Transfers.{AppendsPart}
 use Rattle.gup_spec_journal.specs.Plain.{IsPlain}
 use Rattle.gup_spec_journal.specs.Thorough.{IsThorough}
+use Rattle.gup_spec_accepted.specs.Accepted.{Accepted}
 use Rattle.gup_spec_journal.specs.Follows.{Follows}
 use Rattle.gup_spec_journal.specs.Order.{InOrder}
 use Rattle.gup_spec_journal.specs.Place.{starts_born}
 use Rattle.gup_law_owners.specs.Owners.{OwnsBytes, journal_events}
 use Rattle.gup.specs.declared.command.Command.{Command}
 use Rattle.gup.specs.declared.command.Command.TheVariants.{Run, Make}
+use Rattle.gup.specs.declared.command.Format.{Format}
+use Rattle.gup.specs.declared.command.Format.TheVariants.{Answers, Trace}
+use Rattle.gup_spec_trace.specs.Trace.{trace_text}
 use Rattle.gup.specs.Cause.{HasCauses}
 use Rattle.gup_spec_journal.specs.Stale.{AreStaleSeen}
 use Rattle.gup_make.specs.Made.{made_text}
@@ -29,20 +33,33 @@ use Rattle.gup_script.specs.Script.{ScriptValue}
 abbrev pub IsRun : List (List ℕ) → Type 0
 IsRun words = words ≡ codes "run" ∷ []
 
+-- The command `trace`: that word alone.
+abbrev pub IsTraced : List (List ℕ) → Type 0
+IsTraced words = words ≡ codes "trace" ∷ []
+
+-- the words ask for a run of the source's script, to be told so
+abbrev pub IsToldIn : List (List ℕ) → Format → Type 0
+IsToldIn words Answers = IsRun words
+IsToldIn words Trace = IsTraced words
+
+-- one of these two
+abbrev pub RunsScript : List (List ℕ) → Type 0
+RunsScript words = IsRun words ⊎ IsTraced words
+
 -- The command `make`: that word, and a number below 2^64, as it is spelled without a sign or a zero in front.
 abbrev pub IsMake : List (List ℕ) → (n : ℕ) → Type 0
 IsMake words n = (words ≡ codes "make" ∷ decimal n ∷ []) × (n < 2 ^ 64)
 
--- the words are a command: one of the two
+-- the words are a command: one of the three
 abbrev pub IsCommand : List (List ℕ) → Type 0
-IsCommand words = IsRun words ⊎ ((n : ℕ) × IsMake words n)
+IsCommand words = RunsScript words ⊎ ((n : ℕ) × IsMake words n)
 
 -- the words are those of this command
 abbrev pub IsAsked : List (List ℕ) → Command → Type 0
-IsAsked words Run = IsRun words
+IsAsked words (Run format) = IsToldIn words format
 IsAsked words (Make n) = IsMake words n
 
--- the statuses that `run` has
+-- the statuses that `run` and `trace` have
 abbrev pub IsStatus : ℕ → Type 0
 IsStatus status =
     (status ≡ 0) ⊎ (status ≡ 2) ⊎ (status ≡ 3) ⊎ (status ≡ 4) ⊎ (status ≡ 5) ⊎ (status ≡ 6) ⊎ (status ≡ 7)
@@ -62,6 +79,7 @@ pub record IsRunOf (script : ScriptValue) (stuck : Bool) (notes : List NoteValue
   pub in_order : InOrder script notes
   pub plain : IsPlain script notes
   pub thorough : IsThorough script notes
+  pub accepted : Accepted script notes
   pub owned : OwnsBytes (starts_born script) (journal_events notes)
   pub causes : HasCauses script notes
   pub stale : AreStaleSeen script notes
@@ -77,14 +95,20 @@ pub record IsEndOfRun (script : ScriptValue) (stuck : Bool) (notes : List NoteVa
   pub turns : machine.turns ≡ end.turns
   pub named : (a : ℕ) (waiting : Waiting) → waiting_in script end a ≡ Some waiting → WaitsForBirthOrPin script waiting
 
--- the script has run to this journal, and this is the text of the run
-abbrev pub IsToldRun : ScriptValue → (stuck : Bool) → List NoteValue → (text : List ℕ) → Type 0
-IsToldRun script stuck notes text = (end : RunState) × IsRunOf script stuck notes end × (text ≡ run_text script notes end)
+-- The text of a run of the script that has these bytes. A trace has no lines of stuck actors.
+abbrev pub text_in : Format → (bytes : List ℕ) → ScriptValue → List NoteValue → RunState → List ℕ
+text_in Answers bytes script notes end = run_text script notes end
+text_in Trace bytes script notes end = trace_text bytes script notes
+
+-- the script with these bytes has run to this journal, and this is the text of the run
+abbrev pub IsToldRun : Format → (bytes : List ℕ) → ScriptValue → (stuck : Bool) → List NoteValue → (text : List ℕ) → Type 0
+IsToldRun format bytes script stuck notes text =
+    (end : RunState) × IsRunOf script stuck notes end × (text ≡ text_in format bytes script notes end)
 
 -- the script has run to this journal, and a sink has taken a prefix of its text, and not all of it
-abbrev pub IsPartlyTold : ScriptValue → List NoteValue → (taken taken_after : Option (List ℕ)) → Type 0
-IsPartlyTold script notes taken taken_after =
-    (stuck : Bool) × (text : List ℕ) × IsToldRun script stuck notes text × AppendsPart taken taken_after text
+abbrev pub IsPartlyTold : Format → (bytes : List ℕ) → ScriptValue → List NoteValue → (taken taken_after : Option (List ℕ)) → Type 0
+IsPartlyTold format bytes script notes taken taken_after =
+    (stuck : Bool) × (text : List ℕ) × IsToldRun format bytes script stuck notes text × AppendsPart taken taken_after text
 
 -- the text that is made from n is that of a script, which has run, and this is the summary of the run
 abbrev pub IsMadeRun : (n : ℕ) → (stuck : Bool) → (text : List ℕ) → Type 0

@@ -5,7 +5,7 @@ ghost use Rattle.gup.specs.Summary.{says_ok, word_of, word_in, words_sum, counte
 ghost use Rattle.gup.specs.Counts.{is_ok, answers_in, oks_in};
 
 use gup_base::NoMemory;
-use gup_front::push_text;
+use gup_lines::push_text;
 use gup_plain::{Answer, Journal, PlainEvent, What};
 use itoa::Buffer;
 use std::alloc::Global;

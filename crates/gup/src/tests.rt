@@ -326,6 +326,27 @@ const REFUSALS: [(&str, u32, Reason, &str); 7] = [
     ),
 ];
 
+/// Scripts, with the statuses of their runs, and what stands in their traces behind them.
+const TRACES: [(&str, u8, &str); 3] = [
+    (
+        FIRST,
+        0,
+        "journal\n1 t 1 map p 5 1 rw\n1 t 1 done ok\n2 t 2 load p 5.0 0\n2 t 2 done ok 0\n3 t 3 store p 5.0 7\n3 t 3 done ok\n4 t 4 load p 5.0 7\n4 t 4 done ok 7\n5 t 5 unmap p 5\n5 t 5 done ok\n6 t 6 done missing\n",
+    ),
+    // Who waits for ever has no line of its own.
+    (
+        "gup 1\nframes 1 0 0\nprocess p\nchild c\nthread t p\nthread u c\non u load 5.0\nturns u t\n",
+        4,
+        "journal\n1 u 1 wait process c\n2 t 1 idle\n",
+    ),
+    // A pin that a device has, a mirror, and a fork.
+    (
+        "gup 1\nframes 8 8 64\nprocess p\nchild c\nthread t p\ndevice d 8\non t map 5 1 rw\non t pin h 5 1 write\non t give h d\non d take h\non d in h 0 0 1\non d out h 1 0 1\non d mirror m p 5\non d look m 0\non d unpin h\non t fork c\nturns t*3 d*6 t*4\n",
+        0,
+        "journal\n1 t 1 map p 5 1 rw\n1 t 1 done ok\n2 t 2 pintry p 5 write\n2 t 2 pinok h\n2 t 2 done ok 1\n3 t 3 give h d\n3 t 3 done ok\n4 d 1 take h\n4 d 1 done ok\n5 d 2 in h 0 0 0\n5 d 2 done words\n6 d 3 out h 1 0 0\n6 d 3 done words\n7 d 4 mirror m p 5\n7 d 4 done ok\n8 d 5 look m 0 0\n8 d 5 done ok 0\n9 d 6 unpin h\n9 d 6 done ok\n10 t 4 forkbegin p c\n11 t 4 silent\n12 t 4 forkpage p c 5\n13 t 4 forkend p c\n13 t 4 done ok\n",
+    ),
+];
+
 /// Numbers, with the summaries of the runs of the scripts that are made from them. By `bench/made/script`, which makes the same text, and
 /// `bench/plain`, whose turns were counted, and whose answers to loads and transfers were added up. Few made scripts read a word that was
 /// written.
@@ -443,11 +464,32 @@ fn first_run(rt: HostRuntime) -> Result<(), Fail> {
     Ok(())
 }
 
+fn expect_trace(
+    rt: &impl Abort,
+    alloc: Global,
+    script: &str,
+    status: u8,
+    behind: &str,
+) -> Result<(), Fail> {
+    let text = format!(in alloc; "{script}{behind}")?;
+    expect(rt, alloc, &["trace"], script, status, text.as_str())?;
+    Ok(())
+}
+
+#[test]
+fn traces(rt: HostRuntime) -> Result<(), Fail> {
+    for (script, status, behind) in &TRACES {
+        expect_trace(&rt, rt.alloc(), script, *status, behind)?;
+    }
+    Ok(())
+}
+
 #[test]
 fn words_that_are_no_command(rt: HostRuntime) -> Result<(), Fail> {
-    let words: [&[&str]; 13] = [
+    let words: [&[&str]; 14] = [
         &[],
         &["run", "slow"],
+        &["trace", "run"],
         &["make"],
         &["make", "01"],
         &["make", "+1"],

@@ -3,12 +3,13 @@ ghost use Rattle.std.specs.Prelude.{◌≡◌, ℕ, ◌⊎◌, Bool, List, [], N
 ghost use Rattle.std.specs.Io.KnownBytes.{Appends};
 ghost use Rattle.gup_io.specs.Transfers.{Loses, AppendsPart};
 ghost use Rattle.gup_io.specs.Faults.{HasCause, EndsInFault};
-ghost use Rattle.gup_front.specs.Reading.{OfScript, AreScript, IsScriptOf, IsRefusedFor, IsReadThrough};
+ghost use Rattle.gup_front.specs.Reading.{OfScript, OfText, AreScript, AreBytes, IsRefusedFor, IsReadThrough};
 ghost use Rattle.gup_front.specs.Lines.{refusal_text};
 ghost use Rattle.gup_script.specs.Script.{ScriptValue};
 ghost use Rattle.gup_spec_journal.specs.Place.{starts_born};
 ghost use Rattle.gup_spec_journal.specs.Plain.{IsPlain};
 ghost use Rattle.gup_spec_journal.specs.Thorough.{IsThorough};
+ghost use Rattle.gup_spec_accepted.specs.Accepted.{Accepted};
 ghost use Rattle.gup_spec_journal.specs.Follows.{Follows};
 ghost use Rattle.gup_spec_journal.specs.Order.{InOrder};
 ghost use Rattle.gup_law_owners.specs.Owners.{OwnsBytes, journal_events};
@@ -18,17 +19,22 @@ ghost use Rattle.gup_lines.specs.Text.{text_of, outcomes_of};
 ghost use Rattle.gup.specs.Cause.{HasCauses};
 ghost use Rattle.gup_spec_journal.specs.Stale.{AreStaleSeen};
 ghost use Rattle.gup.specs.Stuck.{IsFinishedRun, IsStuckRun, run_text};
-ghost use Rattle.gup.specs.Report.{IsRun, IsMake, IsCommand, IsStatus, IsMadeStatus, HasRun, IsEndOfRun, IsToldRun, IsMadeRun, IsPartlyTold, IsEnd, usage};
+ghost use Rattle.gup.specs.Report.{IsRun, IsTraced, IsToldIn, RunsScript, IsMake, IsCommand, IsStatus, IsMadeStatus, HasRun, IsEndOfRun, IsToldRun, IsMadeRun, IsPartlyTold, IsEnd, usage};
+ghost use Rattle.gup_spec_trace.specs.Trace.{trace_text, IsTrace};
+ghost use Rattle.gup_spec_trace.specs.Written.{CanBeWritten};
+ghost use Rattle.std.specs.List.{All};
+ghost use Rattle.gup.specs.declared.command.Format.{Format as FormatValue};
 ghost use Rattle.gup_make.specs.Made.{made_text};
 ghost use Rattle.gup_spec_grammar.specs.Grammar.{Accepts};
 
-use crate::command::{Command, command_of};
+use crate::command::{Command, Format, command_of};
 use crate::summary::summary_lines;
 use crate::text::{journal_text, push_stuck_lines};
 use gup_base::NoMemory;
 use gup_core::Machine;
-use gup_front::{Unread, read, refusal_line};
+use gup_front::{ReadScript, Unread, read, refusal_line};
 use gup_io::{Sink, Source, write_all};
+use gup_law_accepted::core_runs_are_accepted;
 use gup_law_journal::{
     core_run_follows, core_run_is_in_order, core_run_is_plain, core_run_is_thorough,
     finished_runs_answer_all, looks_have_their_cause, moves_have_their_causes,
@@ -37,12 +43,14 @@ use gup_law_journal::{
 use gup_law_made::made_texts_are_scripts;
 use gup_law_mirrors::looks_are_stale_with_cause;
 use gup_law_owners::plain_journals_are_owned;
+use gup_law_written::journals_can_be_written;
 use gup_make::make_text;
 use gup_plain::Journal;
 use gup_read::{one_script, read_script, scripts_have_no_fault};
 use gup_sched::{Run, run_machine};
 use gup_script::Script;
 use gup_spec_grammar::{ReadRefusal, ScriptFault};
+use gup_trace::push_journal;
 use std::alloc::Global;
 
 /// What the program did: its exit status, the journal of the run, and the fault of a script that was refused.
@@ -77,6 +85,7 @@ fn run_script(alloc: Global, script: Script) -> Result<Run, NoMemory>
     core_run_is_in_order();
     core_run_is_plain();
     core_run_is_thorough();
+    core_runs_are_accepted();
     plain_journals_are_owned();
     no_frame_has_its_cause();
     moves_have_their_causes();
@@ -98,13 +107,44 @@ struct Told {
     text: Vec<u8>,
 }
 
-// Runs the script, for its answers and the actors that are stuck.
-fn tell_run(alloc: Global, script: Script) -> Result<Told, NoMemory>
-    ensures { IfOk result (λ told. IsToldRun script told.stuck told.journal.notes told.text.items) }
+// Runs the script, and tells the run. Each note of a trace has a line of its own.
+fn tell_run(alloc: Global, found: ReadScript, format: Format) -> Result<Told, NoMemory>
+    ensures told { IfOk result
+        (λ told. IsToldRun format found.text.items found.script told.stuck told.journal.notes told.text.items) }
+    ensures written { format ≡ Format.Trace → IfOk result (λ told. All (CanBeWritten found.script) told.journal.notes) }
 {
-    let ran = run_script(alloc, script)?;
+    match format {
+        Format::Answers => tell_answers(alloc, found),
+        Format::Trace => tell_trace(alloc, found),
+    }
+}
+
+// Runs the script, for its answers and the actors that are stuck.
+fn tell_answers(alloc: Global, found: ReadScript) -> Result<Told, NoMemory>
+    ensures { IfOk result
+        (λ told. IsToldRun Format.Answers found.text.items found.script told.stuck told.journal.notes told.text.items) }
+{
+    let ran = run_script(alloc, found.script)?;
     let mut text = journal_text(alloc, ran.machine.script(), &ran.journal)?;
     push_stuck_lines(ran.machine.script(), &ran.machine, &mut text)?;
+    Ok(Told {
+        journal: ran.journal,
+        stuck: ran.stuck,
+        text,
+    })
+}
+
+// Runs the script, for its trace, which begins with its own bytes.
+fn tell_trace(alloc: Global, found: ReadScript) -> Result<Told, NoMemory>
+    ensures told { IfOk result
+        (λ told. IsToldRun Format.Trace found.text.items found.script told.stuck told.journal.notes told.text.items) }
+    ensures written { IfOk result (λ told. All (CanBeWritten found.script) told.journal.notes) }
+{
+    journals_can_be_written();
+    let _actors = found.script.actors();
+    let mut text = found.text;
+    let ran = run_script(alloc, found.script)?;
+    push_journal(ran.machine.script(), ran.journal.notes(), &mut text)?;
     Ok(Told {
         journal: ran.journal,
         stuck: ran.stuck,
@@ -165,23 +205,24 @@ fn refuse<K: Sink>(alloc: Global, sink: &mut K, fault: ScriptFault) -> Report
     Report::unrun(alloc, status, Some(fault))
 }
 
-// Runs the script, and writes its answers and the actors that are stuck.
-fn run_and_write<K: Sink>(alloc: Global, sink: &mut K, script: Script) -> Report
+// Runs the script, and writes what is told of the run.
+fn run_and_write<K: Sink>(alloc: Global, sink: &mut K, found: ReadScript, format: Format) -> Report
     ensures statuses { HasRun result.status ⊎ (result.status ≡ 6) ⊎ (result.status ≡ 7) }
     ensures refusal { result.refusal ≡ None }
-    ensures finished { result.status ≡ 0 → (text : List ℕ) × IsToldRun script false result.journal.notes text
+    ensures written { format ≡ Format.Trace → HasRun result.status → All (CanBeWritten found.script) result.journal.notes }
+    ensures finished { result.status ≡ 0 → (text : List ℕ) × IsToldRun format found.text.items found.script false result.journal.notes text
         × Appends (K.taken sink.old) (K.taken sink.new) text }
-    ensures stuck { result.status ≡ 4 → (text : List ℕ) × IsToldRun script true result.journal.notes text
+    ensures stuck { result.status ≡ 4 → (text : List ℕ) × IsToldRun format found.text.items found.script true result.journal.notes text
         × Appends (K.taken sink.old) (K.taken sink.new) text }
     ensures part { result.status ≡ 6
-        → IsPartlyTold script result.journal.notes (K.taken sink.old) (K.taken sink.new) }
+        → IsPartlyTold format found.text.items found.script result.journal.notes (K.taken sink.old) (K.taken sink.new) }
     ensures write_fault { result.status ≡ 6
         → EndsInFault (K.faults sink.old) (K.faults sink.new) (K.faulted sink.new) }
     ensures uncounted { (result.status ≡ 6 → ⊥) → K.faults sink.new ≡ K.faults sink.old }
     ensures unwritten { result.status ≡ 7 → sink.new ≡ sink.old }
     ensures unrun { result.status ≡ 7 → result.journal.notes ≡ [] }
 {
-    let Ok(told) = tell_run(alloc, script) else {
+    let Ok(told) = tell_run(alloc, found, format) else {
         return Report::unrun(alloc, 7, None);
     };
     let written = write_all(sink, told.text.as_slice()).is_ok();
@@ -247,58 +288,67 @@ fn show_usage<K: Sink>(alloc: Global, sink: &mut K) -> Report
 
 /// What the program does. The words are those after its name: `run` reads a script from the source, to its end or past the
 /// length of a script, runs it, and writes a line for each answer, and after these one for each actor that is stuck;
+/// `trace` does the same, and writes the bytes of the script, the line `journal`, and a line for each note of the run's journal;
 /// `make N` runs the script that is made from the number N, and writes four lines that count its answers, and after
 /// these one for each actor that is stuck. It leaves the source unread.
 ///
 /// The statuses: 0, the script ran and the sink took its whole text; 2, the words are no command; 3, the bytes are
 /// no script; 4, the same as 0, but that actors are stuck: they wait at the end of the run; 5, a read failed; 6, a
 /// write failed; 7, memory ran out.
-#[tactic(auto, using(crate::proofs::Commands::not_both, crate::proofs::Commands::one_number))]
+#[tactic(auto, using(crate::proofs::Commands::not_both, crate::proofs::Commands::not_told, crate::proofs::Commands::one_number))]
 pub fn gup<S: Source, K: Sink>(
     alloc: Global,
     words: &[String],
     source: &mut S,
     sink: &mut K,
 ) -> Report
-    // The headline, of `run`: where the source tells its bytes, they are a script, the journal follows it in its order and
-    // is plain and thorough, what the sink took is the journal's text and nothing else, and the journal is the core run, in
-    // which every actor has finished, or, at status 4, at whose end actors have operations left, and each waits for a
+    // The headline, of `run` and `trace`: where the source tells its bytes, they are a script, the journal follows it in its order and
+    // is plain and thorough, what the sink took is the journal's text, or its trace, and nothing else, and the journal is the core
+    // run, in which every actor has finished, or, at status 4, at whose end actors have operations left, and each waits for a
     // process or for a pin.
-    ensures script { IsRun (map string_bytes words.now) → HasRun result.status → AreScript (S.remaining source.old) }
-    ensures follows { IsRun (map string_bytes words.now) → HasRun result.status
+    ensures script { RunsScript (map string_bytes words.now) → HasRun result.status → AreScript (S.remaining source.old) }
+    ensures follows { RunsScript (map string_bytes words.now) → HasRun result.status
         → OfScript (S.remaining source.old) (λ script. Follows script result.journal.notes) }
-    ensures in_order { IsRun (map string_bytes words.now) → HasRun result.status
+    ensures in_order { RunsScript (map string_bytes words.now) → HasRun result.status
         → OfScript (S.remaining source.old) (λ script. InOrder script result.journal.notes) }
-    ensures plain { IsRun (map string_bytes words.now) → HasRun result.status
+    ensures plain { RunsScript (map string_bytes words.now) → HasRun result.status
         → OfScript (S.remaining source.old) (λ script. IsPlain script result.journal.notes) }
-    ensures thorough { IsRun (map string_bytes words.now) → HasRun result.status
+    ensures thorough { RunsScript (map string_bytes words.now) → HasRun result.status
         → OfScript (S.remaining source.old) (λ script. IsThorough script result.journal.notes) }
     ensures text { IsRun (map string_bytes words.now) → result.status ≡ 0 → OfScript (S.remaining source.old)
         (λ script. Appends (K.taken sink.old) (K.taken sink.new) (text_of script result.journal.notes)) }
     ensures stuck_text { IsRun (map string_bytes words.now) → result.status ≡ 4 → OfScript (S.remaining source.old)
         (λ script. (end : RunState) × IsCoreRun script result.journal.notes end
         × Appends (K.taken sink.old) (K.taken sink.new) (run_text script result.journal.notes end)) }
-    ensures core { IsRun (map string_bytes words.now) → result.status ≡ 0
+    ensures trace { IsTraced (map string_bytes words.now) → HasRun result.status → OfText (S.remaining source.old)
+        (λ bytes script. Appends (K.taken sink.old) (K.taken sink.new) (trace_text bytes script result.journal.notes)) }
+    ensures read_again { IsTraced (map string_bytes words.now) → HasRun result.status → OfText (S.remaining source.old)
+        (λ bytes script. IsTrace (trace_text bytes script result.journal.notes) script result.journal.notes) }
+    ensures core { RunsScript (map string_bytes words.now) → result.status ≡ 0
         → OfScript (S.remaining source.old) (λ script. IsFinishedRun script result.journal.notes) }
-    ensures stuck { IsRun (map string_bytes words.now) → result.status ≡ 4
+    ensures stuck { RunsScript (map string_bytes words.now) → result.status ≡ 4
         → OfScript (S.remaining source.old) (λ script. IsStuckRun script result.journal.notes) }
+
+    // The journal is one that is accepted of the script's actors in whatever order they take turns.
+    ensures accepted { RunsScript (map string_bytes words.now) → HasRun result.status
+        → OfScript (S.remaining source.old) (λ script. Accepted script result.journal.notes) }
 
     // Each process owns its bytes in that journal: what is read of an object was last written to it, or is 0, and what
     // a page names is written by its process, by devices through a pin of it, and by the fork that made it.
-    ensures owned { IsRun (map string_bytes words.now) → HasRun result.status → OfScript (S.remaining source.old)
+    ensures owned { RunsScript (map string_bytes words.now) → HasRun result.status → OfScript (S.remaining source.old)
         (λ script. OwnsBytes (starts_born script) (journal_events result.journal.notes)) }
 
     // Each operation has one answer, where all have finished, and each refusal its cause: the plain state denies the
     // operation so, or its turn needs a frame and none is free that it may take, or finds a page untouched, busy or unmovable, or a
     // slot empty; and where that is so it is refused.
-    ensures lines { IsRun (map string_bytes words.now) → result.status ≡ 0 → OfScript (S.remaining source.old)
+    ensures lines { RunsScript (map string_bytes words.now) → result.status ≡ 0 → OfScript (S.remaining source.old)
         (λ script. length (outcomes_of result.journal.notes) ≡ operations script) }
-    ensures causes { IsRun (map string_bytes words.now) → HasRun result.status
+    ensures causes { RunsScript (map string_bytes words.now) → HasRun result.status
         → OfScript (S.remaining source.old) (λ script. HasCauses script result.journal.notes) }
 
     // A look is stale only where, behind the last fill of its slot, there is a note of a fork or an exit of the page's process, or of
     // an unmap, a discard, a protect, a store, a pin or a move of the page; or where the slot was never filled.
-    ensures stale { IsRun (map string_bytes words.now) → HasRun result.status
+    ensures stale { RunsScript (map string_bytes words.now) → HasRun result.status
         → OfScript (S.remaining source.old) (λ script. AreStaleSeen script result.journal.notes) }
 
     // `make N` runs the script that is made from N, and all that is said here of a script that has run is so of it. What the
@@ -318,10 +368,10 @@ pub fn gup<S: Source, K: Sink>(
     ensures made_unrun { (n : ℕ) → IsMake (map string_bytes words.now) n
         → (result.journal.notes ≡ []) × (result.refusal ≡ None) }
 
-    // Which statuses `run` has. Bytes that are a script give status 0, where all actors finish, or 4, where some are stuck,
+    // Which statuses `run` and `trace` have. Bytes that are a script give status 0, where all actors finish, or 4, where some are stuck,
     // where neither the source nor the sink has failed, unless memory runs out.
-    ensures statuses { IsRun (map string_bytes words.now) → IsStatus result.status }
-    ensures complete { IsRun (map string_bytes words.now)
+    ensures statuses { RunsScript (map string_bytes words.now) → IsStatus result.status }
+    ensures complete { RunsScript (map string_bytes words.now)
         → (HasCause (S.faults source.old) (S.faults source.new) → ⊥)
         → (HasCause (K.faults sink.old) (K.faults sink.new) → ⊥)
         → OfScript (S.remaining source.old) (λ script. IsEnd script result.status result.journal.notes) }
@@ -335,9 +385,9 @@ pub fn gup<S: Source, K: Sink>(
         → (result.journal.notes ≡ []) × (result.refusal ≡ None) }
 
     // Status 3 comes only where the bytes are no script; where they are one and it is not refused, see above.
-    ensures refused { IsRun (map string_bytes words.now) → result.status ≡ 3
+    ensures refused { RunsScript (map string_bytes words.now) → result.status ≡ 3
         → OfScript (S.remaining source.old) (λ script. ⊥) }
-    ensures refusal { IsRun (map string_bytes words.now) → IfSome result.refusal (IsRefusedFor (S.remaining source.old)) }
+    ensures refusal { RunsScript (map string_bytes words.now) → IfSome result.refusal (IsRefusedFor (S.remaining source.old)) }
     ensures refusal_there { result.status ≡ 3 → IsSome result.refusal }
     ensures refusal_text { result.status ≡ 3 → IfSome result.refusal
         (λ fault. Appends (K.taken sink.old) (K.taken sink.new) (refusal_text fault)) }
@@ -347,9 +397,9 @@ pub fn gup<S: Source, K: Sink>(
     ensures read_fault { result.status ≡ 5
         → EndsInFault (S.faults source.old) (S.faults source.new) (S.faulted source.new) }
     ensures no_read_fault { (result.status ≡ 5 → ⊥) → S.faults source.new ≡ S.faults source.old }
-    ensures reading { IsRun (map string_bytes words.now)
+    ensures reading { RunsScript (map string_bytes words.now)
         → Loses 0 1048577 (S.remaining source.old) (S.remaining source.new) }
-    ensures read_through { IsRun (map string_bytes words.now) → (result.status ≡ 5 → ⊥) → (result.status ≡ 7 → ⊥)
+    ensures read_through { RunsScript (map string_bytes words.now) → (result.status ≡ 5 → ⊥) → (result.status ≡ 7 → ⊥)
         → IsReadThrough (S.remaining source.old) (S.remaining source.new) }
     ensures unwritten { (result.status ≡ 5) ⊎ (result.status ≡ 7) → sink.new ≡ sink.old }
 
@@ -363,11 +413,13 @@ pub fn gup<S: Source, K: Sink>(
         → AppendsPart (K.taken sink.old) (K.taken sink.new) usage }
     ensures refusal_part { result.status ≡ 6 → IfSome result.refusal
         (λ fault. AppendsPart (K.taken sink.old) (K.taken sink.new) (refusal_text fault)) }
-    ensures text_part { result.status ≡ 6 → IsRun (map string_bytes words.now) → OfScript (S.remaining source.old)
-        (λ script. IsPartlyTold script result.journal.notes (K.taken sink.old) (K.taken sink.new)) }
-    ensures refused_or_ran { result.status ≡ 6 → IsRun (map string_bytes words.now)
-        → IsSome result.refusal ⊎ ((script : ScriptValue) × IsScriptOf (S.remaining source.old) script
-        × IsPartlyTold script result.journal.notes (K.taken sink.old) (K.taken sink.new)) }
+    ensures text_part { (format : FormatValue) → result.status ≡ 6 → IsToldIn (map string_bytes words.now) format
+        → OfText (S.remaining source.old)
+        (λ bytes script. IsPartlyTold format bytes script result.journal.notes (K.taken sink.old) (K.taken sink.new)) }
+    ensures refused_or_ran { (format : FormatValue) → result.status ≡ 6 → IsToldIn (map string_bytes words.now) format
+        → IsSome result.refusal ⊎ ((bytes : List ℕ) × (script : ScriptValue)
+        × AreBytes (S.remaining source.old) bytes × Accepts bytes script
+        × IsPartlyTold format bytes script result.journal.notes (K.taken sink.old) (K.taken sink.new)) }
 
     // A refusal is there exactly where a script was refused, and a journal only where one ran.
     ensures no_refusal { HasRun result.status ⊎ (result.status ≡ 2) ⊎ (result.status ≡ 5) → result.refusal ≡ None }
@@ -380,11 +432,12 @@ pub fn gup<S: Source, K: Sink>(
     let Some(command) = command_of(words) else {
         return show_usage(alloc, sink);
     };
-    if let Command::Make(n) = command {
-        return make_and_write(alloc, sink, n);
-    }
+    let format = match command {
+        Command::Make(n) => return make_and_write(alloc, sink, n),
+        Command::Run(format) => format,
+    };
     match read(alloc, source) {
-        Ok(found) => run_and_write(alloc, sink, found.script),
+        Ok(found) => run_and_write(alloc, sink, found, format),
         Err(Unread::Failed) => Report::unrun(alloc, 5, None),
         Err(Unread::Fault(fault)) => refuse(alloc, sink, fault),
         Err(Unread::NoMemory) => Report::unrun(alloc, 7, None),

@@ -55,6 +55,7 @@ returns-clause-run c =
           in_order = c.core_run_is_in_order.ensures script notes end valid core;
           plain = plain;
           thorough = c.core_run_is_thorough.ensures.run script notes end valid core;
+          accepted = c.core_runs_are_accepted.ensures script notes end valid core;
           owned = c.plain_journals_are_owned.ensures script notes plain;
           causes =
               (core.0, end, core.1, core.2, caused exact script valid (judged_first script) 1 (λ _. first_place) core.0 (run_start script) end ([], refl) core.2 (subst (AreSo IsRightAt script (judged_first script)) core.1 plain));
