@@ -7,3 +7,4 @@ pub mod SpaceLemmas
 pub mod CountedPages
 pub mod TableLemmas
 pub mod TakenLemmas
+pub mod RangeLemmas

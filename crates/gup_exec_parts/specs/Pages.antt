@@ -1,5 +1,5 @@
 -- The pages that a process has mapped: a map from page numbers to rights and objects.
-use Rattle.std.specs.Prelude.{◌≡◌, ℕ, ◌+◌, ◌-◌, ◌<◌, Option, Some, None, IsSome}
+use Rattle.std.specs.Prelude.{◌≡◌, ℕ, ◌+◌, ◌-◌, ◌<◌, ◌≤◌, Option, Some, None, IsSome}
 use Rattle.std.specs.Option.{option_map_or, option_map}
 use Rattle.gup_base.specs.declared.entry.Rights.{Rights}
 use Rattle.gup_plain.specs.Pages.{page_numbers}
@@ -36,6 +36,10 @@ AreNumbered pages = (page : ℕ) → IsSome (right_in (pages page)) → page < p
 -- no page of the range is mapped
 abbrev pub AreFree : (ℕ → Option Page) → (first n : ℕ) → Type 0
 AreFree pages first n = (k : ℕ) → k < n → pages (first + k) ≡ None
+
+-- no page from this one on, below the other, is mapped
+abbrev pub AreFreeBetween : (ℕ → Option Page) → (from below : ℕ) → Type 0
+AreFreeBetween pages from below = (page : ℕ) → from ≤ page → page < below → pages page ≡ None
 
 -- each page of the range is mapped
 abbrev pub AreMapped : (ℕ → Option Page) → (first n : ℕ) → Type 0

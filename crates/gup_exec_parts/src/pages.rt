@@ -4,7 +4,7 @@ ghost use Rattle.std.specs.BTreeMap.{get, btree_map_len};
 ghost use Rattle.std.specs.Ordering.{nat_cmp};
 ghost use Rattle.gup_plain.specs.Pages.{mapped_pages};
 ghost use Rattle.gup_plain.specs.Put.{put, spread};
-ghost use Rattle.gup_exec_parts.specs.Pages.{page_with, pages_from, right_in, with_object, with_rights, own_objects, AreFree, AreMapped, AreNumbered};
+ghost use Rattle.gup_exec_parts.specs.Pages.{page_with, pages_from, right_in, with_object, with_rights, own_objects, AreFree, AreFreeBetween, AreMapped, AreNumbered};
 
 use gup_base::{NoMemory, PageNo, Rights};
 use std::alloc::Global;
@@ -52,6 +52,14 @@ pub fn are_mapped(pages: &Pages, first: PageNo, n: u16) -> bool
         }
     }
     true
+}
+
+/// Whether none of the pages from `from` on, below `below`, is mapped. This takes logarithmic time, however many they
+/// are.
+pub fn none_between(pages: &Pages, from: PageNo, below: PageNo) -> bool
+    ensures { IsTrue result ↔ AreFreeBetween (get nat_cmp pages.now) from below }
+{
+    from >= below || pages.range(from..below).next().is_none()
 }
 
 /// Maps a page that isn't mapped.

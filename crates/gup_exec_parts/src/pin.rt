@@ -1,5 +1,5 @@
 //! Handles: each is the name of one pin.
-ghost use Rattle.std.specs.Prelude.{◌≡◌, ◌≢◌, true, false, ◌↔◌, IsTrue, IsSome, IfSome, MatchOption, MatchBool, IfOk, vec_len};
+ghost use Rattle.std.specs.Prelude.{◌≡◌, ◌≢◌, true, false, ◌↔◌, length, IsTrue, IsSome, IfSome, MatchOption, MatchBool, IfOk, vec_len};
 ghost use Rattle.gup_plain.specs.State.{Handle, unmade, held, gone, objects_of};
 ghost use Rattle.gup_plain.specs.Event.{IsHeldBy, IsGivenTo, given_to, held_by, may_write, object_at};
 ghost use Rattle.gup_exec_parts.specs.Pin.{handle_of, HasWord};
@@ -143,6 +143,16 @@ impl Pin {
                 Some(object) => *object,
                 None => 0,
             },
+            Stage::Unmade | Stage::Gone => 0,
+        }
+    }
+
+    /// How many pages the handle pins: none where it isn't made, or is gone.
+    pub fn pages(&self) -> usize
+        ensures { result ≡ length (objects_of self.now) }
+    {
+        match self.stage {
+            Stage::Held(_) | Stage::Given(_) => self.objects.len(),
             Stage::Unmade | Stage::Gone => 0,
         }
     }

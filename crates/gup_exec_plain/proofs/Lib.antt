@@ -1,3 +1,4 @@
+pub mod Unnamed
 pub mod Puts
 pub mod Tidy
 pub mod Mappings

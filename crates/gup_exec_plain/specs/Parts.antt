@@ -65,6 +65,10 @@ pub record IsMade (s : PlainState) : Type 0 where
   pub pending : (a : ℕ) → All (λ (t : Pending). t.object < s.made) (s.pending a)
   pub content : (o w : ℕ) → s.made ≤ o → s.content o w ≡ 0
 
+-- each page that is named has a number that a page may have
+abbrev pub AreNumbered : PlainState → Type 0
+AreNumbered s = (p page : ℕ) → IsSome (s.right p page) → page < page_numbers
+
 -- there is each process, each handle and each mirror slot that a number can name
 pub record HasAll (v : Parts) : Type 0 where
   pub spaces : vec_len v.spaces ≡ 16

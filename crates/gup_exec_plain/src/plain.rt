@@ -1,13 +1,17 @@
 //! The plain model as a program.
-ghost use Rattle.std.specs.Prelude.{◌≡◌, ℕ, ◌<◌, ◌≤◌, ◌↔◌, IsTrue, MatchOption, false, OnOk, OnErr, IfOk, IsErrOf};
+ghost use Rattle.std.specs.Prelude.{◌≡◌, ℕ, ◌<◌, ◌≤◌, ◌↔◌, length, None, IsTrue, MatchOption, false, OnOk, OnErr, IfOk, IsErrOf};
 ghost use Rattle.gup_plain.specs.Event.{CanHappen, happened};
 ghost use Rattle.gup_plain.specs.Put.{put};
 ghost use Rattle.gup_plain.specs.State.{plain_start, unborn, born};
-ghost use Rattle.gup_exec_plain.specs.Parts.{state_of, processes_of, actors_of, HasActor, WantsMemory};
+ghost use Rattle.gup_exec_plain.specs.Parts.{state_of, processes_of, actors_of, HasActor, AreNumbered, WantsMemory};
+ghost use Rattle.gup_exec_parts.specs.Space.{birth_of};
 
 use crate::parts::Parts;
 use crate::refusal::PlainRefusal;
-use gup_base::{ActorNo, NoMemory, ProcNo};
+use gup_base::{ActorNo, HandleNo, NoMemory, PageNo, ProcNo, Rights};
+use gup_exec_parts::pages;
+use gup_exec_parts::pin::Pin;
+use gup_exec_parts::space::Birth;
 use gup_plain::PlainEvent;
 use std::alloc::Global;
 use std::marker::Model;
@@ -63,6 +67,64 @@ impl Plain {
         ensures actors { actors_of self.new ≡ actors_of self.old }
     {
         self.parts.birth(p);
+    }
+
+    /// Whether the process has come into being.
+    pub fn birth_of(&self, p: ProcNo) -> Birth
+        ensures { birth_of result ≡ (state_of self.now).birth p }
+    {
+        self.parts.space(p).birth
+    }
+
+    /// The rights of the process's page, if it has it: a process that isn't born yet may have pages, too.
+    pub fn rights(&self, p: ProcNo, page: PageNo) -> Option<Rights>
+        ensures rights { result ≡ (state_of self.now).right p page }
+        ensures numbered { AreNumbered (state_of self.now) }
+    {
+        self.parts
+            .space(p)
+            .pages
+            .get(&page)
+            .map(|found| found.rights)
+    }
+
+    /// How many pages the process has.
+    pub fn page_count(&self, p: ProcNo) -> usize
+        ensures { result ≡ (state_of self.now).pages p }
+    {
+        self.parts.space(p).pages.len()
+    }
+
+    /// Whether the process has none of the pages from `from` on, below `below`. This takes logarithmic time, however many
+    /// they are.
+    pub fn lacks_pages(&self, p: ProcNo, from: PageNo, below: PageNo) -> bool
+        ensures { IsTrue result ↔ ((page : ℕ) → from ≤ page → page < below → (state_of self.now).right p page ≡ None) }
+    {
+        pages::none_between(&self.parts.space(p).pages, from, below)
+    }
+
+    /// Whether the process has no page at all.
+    pub fn has_no_page(&self, p: ProcNo) -> bool
+        ensures { IsTrue result ↔ ((page : ℕ) → (state_of self.now).right p page ≡ None) }
+    {
+        self.parts.space(p).pages.first_key_value().is_none()
+    }
+
+    /// The handle, which may not be made yet, or gone.
+    pub fn handle(&self, h: HandleNo) -> &Pin
+        ensures { result.now ≡ (state_of self.now).handle h }
+    {
+        &self.parts.pins[h.get() as usize]
+    }
+
+    /// How many pages the actor's running pin has taken and not dropped.
+    pub fn pages_pending(&self, actor: ActorNo) -> usize
+        ensures { result ≡ length ((state_of self.now).pending actor) }
+    {
+        match self.parts.actors.get(actor.get() as usize) {
+            None => 0,
+            Some(by) => by.taken.len(),
+        }
     }
 
     /// Whether the event's actor, where it has one, is one of the actors.
