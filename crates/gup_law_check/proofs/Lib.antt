@@ -1,0 +1,3 @@
+mod OneMore
+mod Standings
+mod Counted

@@ -1,0 +1,5 @@
+mod SameActor
+mod Leading
+mod Pieces
+mod Arcs
+mod Standings
