@@ -1,0 +1,5 @@
+mod Tests
+mod NumberLemmas
+mod PageChanges
+mod EventChanges
+mod TimedNotes

@@ -1,0 +1,3 @@
+pub mod Begun
+pub mod Needs
+pub mod Referring
