@@ -1,5 +1,5 @@
 //! The reader of a trace.
-ghost use Rattle.std.specs.Prelude.{◌+◌, ◌≤◌, ℕ, List, length, IfOk, IfErr};
+ghost use Rattle.std.specs.Prelude.{◌+◌, ◌≤◌, ℕ, List, length, IfOk, IfErr, OnOk};
 ghost use Rattle.gup_spec_trace.specs.Trace.{IsTrace, HasNoJournal, most_bytes};
 ghost use Rattle.gup_read_trace.specs.Refusal.{IsTraceRefusal};
 ghost use Rattle.gup_read_trace.specs.Parts.{IsPartedAt};
@@ -61,6 +61,7 @@ fn refused_whole(alloc: Global, text: &[u8]) -> ReadRefusal
 /// it is too long (`Long`, in line 0). It takes time that is linear in the bytes and in the turns that the script writes.
 pub fn read_trace(alloc: Global, text: &[u8]) -> Result<Trace, ReadRefusal>
     ensures found { IfOk result (λ trace. IsTrace text.now trace.script trace.journal.notes) }
+    ensures fits { OnOk result (length text.now ≤ most_bytes) }
     ensures refused { IfErr result (IsTraceRefusal text.now) }
 {
     if text.len() > MAX_BYTES {
