@@ -6,9 +6,9 @@ use Rattle.std.proofs.lemmas.Slice.Eq.{bytes_eq-Decides}
 use Rattle.std.proofs.lemmas.Fmt.{decimal_injective}
 use Rattle.gup_read_words.specs.Text.{number_in}
 use Rattle.gup_read_words.proofs.SpelledNumbers.{number_found, decimal_read}
-use Rattle.gup.specs.Report.{IsToldIn, RunsScript, IsMake, IsCommand, IsAsked}
+use Rattle.gup.specs.Report.{IsToldIn, RunsScript, IsChecked, IsMake, IsCommand, IsAsked}
 use Rattle.gup.specs.declared.command.Command.{Command}
-use Rattle.gup.specs.declared.command.Command.TheVariants.{Run}
+use Rattle.gup.specs.declared.command.Command.TheVariants.{Run, Check}
 use Rattle.gup.specs.declared.command.Format.{Format}
 use Rattle.gup.specs.declared.command.Format.TheVariants.{Answers, Trace}
 
@@ -25,14 +25,15 @@ two_of f (a ∷ []) x y some few is next = absurd (omega arith)
 two_of f (a ∷ b ∷ []) x y some few is next = ap₂ (λ v w. f v ∷ f w ∷ []) (sym is) (sym next)
 two_of f (a ∷ b ∷ c ∷ xs) x y some few is next = absurd (omega arith)
 
--- one word asks for a run
-pub asked_words : (words : List (List ℕ)) (word : List ℕ) (format : Format) → words ≡ word ∷ [] → IsToldIn (word ∷ []) format → IsToldIn words format
-asked_words words word format are told = subst (λ (w : List (List ℕ)). IsToldIn w format) (sym are) told
+-- one word asks for a command
+pub asked_words : (words : List (List ℕ)) (word : List ℕ) (command : Command) → words ≡ word ∷ [] → IsAsked (word ∷ []) command → IsAsked words command
+asked_words words word command are asked = subst (λ (w : List (List ℕ)). IsAsked w command) (sym are) asked
 
 -- or for nothing
-pub one_no_command : (words : List (List ℕ)) (word : List ℕ) → words ≡ word ∷ [] → (RunsScript (word ∷ []) → ⊥) → IsCommand words → ⊥
-one_no_command words word are none (inl run) = none (subst RunsScript are run)
-one_no_command words word are none (inr made) = let e = sym are ∙ made.1.0 in absurd (cc)
+pub one_no_command : (words : List (List ℕ)) (word : List ℕ) → words ≡ word ∷ [] → (RunsScript (word ∷ []) → ⊥) → (IsChecked (word ∷ []) → ⊥) → IsCommand words → ⊥
+one_no_command words word are none unchecked (inl run) = none (subst RunsScript are run)
+one_no_command words word are none unchecked (inr (inl checked)) = unchecked (subst IsChecked are checked)
+one_no_command words word are none unchecked (inr (inr made)) = let e = sym are ∙ made.1.0 in absurd (cc)
 
 -- those of `make`, by the number that was read
 pub make_words : (words : List (List ℕ)) (word count : List ℕ) (n : ℕ) → words ≡ word ∷ count ∷ [] → bytes_eq word (codes "make") ≡ true → number_in count ≡ Some n → IsMake words n
@@ -44,7 +45,8 @@ make_words words word count n are same read =
 pub no_number : (words : List (List ℕ)) (word count : List ℕ) → words ≡ word ∷ count ∷ [] → number_in count ≡ None → IsCommand words → ⊥
 no_number words word count are unread (inl (inl run)) = let e = sym are ∙ run in absurd (cc)
 no_number words word count are unread (inl (inr traced)) = let e = sym are ∙ traced in absurd (cc)
-no_number words word count are unread (inr made) =
+no_number words word count are unread (inr (inl checked)) = let e = sym are ∙ checked in absurd (cc)
+no_number words word count are unread (inr (inr made)) =
     let e = sym are ∙ made.1.0 in
     let spelled : count ≡ decimal made.0 = cc in
     let read = sym unread ∙ ap number_in spelled ∙ decimal_read made.0 made.1.1 in
@@ -80,3 +82,16 @@ one_number words n m here there =
 -- the format that the words ask for is the one that was read
 pub asked_format : (words : List (List ℕ)) (command : Command) (f g : Format) → command ≡ Run f → IsAsked words command → IsToldIn words g → f ≡ g
 asked_format words command f g is asked told = one_format words f g (subst (IsAsked words) is asked) told
+
+-- `check` is no other command
+pub checked_not_run : (words : List (List ℕ)) → IsChecked words → RunsScript words → ⊥
+checked_not_run words checked (inl run) = let e : codes "check" ∷ [] ≡ codes "run" ∷ [] = sym checked ∙ run in absurd (cc)
+checked_not_run words checked (inr traced) =
+    let first : 99 ≡ 116 = ap (λ (w : List (List ℕ)). get_or (get_or w 0 []) 0 0) (sym checked ∙ traced) in
+    omega (arith, first)
+
+pub asked_check : (words : List (List ℕ)) (command : Command) → command ≡ Check → IsAsked words command → IsChecked words
+asked_check words command is asked = subst (IsAsked words) is asked
+
+pub asked_run : (words : List (List ℕ)) (command : Command) (format : Format) → command ≡ Run format → IsAsked words command → RunsScript words
+asked_run words command format is asked = runs_told words format (subst (IsAsked words) is asked)

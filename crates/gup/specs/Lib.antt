@@ -1,5 +1,3 @@
 pub mod Cause
 pub mod Stuck
-pub mod Summary
-pub mod Counts
 pub mod Report

@@ -17,15 +17,14 @@ use Rattle.gup_spec_journal.specs.Order.{InOrder}
 use Rattle.gup_spec_journal.specs.Place.{starts_born}
 use Rattle.gup_law_owners.specs.Owners.{OwnsBytes, journal_events}
 use Rattle.gup.specs.declared.command.Command.{Command}
-use Rattle.gup.specs.declared.command.Command.TheVariants.{Run, Make}
+use Rattle.gup.specs.declared.command.Command.TheVariants.{Run, Check, Make}
 use Rattle.gup.specs.declared.command.Format.{Format}
 use Rattle.gup.specs.declared.command.Format.TheVariants.{Answers, Trace}
 use Rattle.gup_spec_trace.specs.Trace.{trace_text}
 use Rattle.gup.specs.Cause.{HasCauses}
 use Rattle.gup_spec_journal.specs.Stale.{AreStaleSeen}
 use Rattle.gup_make.specs.Made.{made_text}
-use Rattle.gup.specs.Stuck.{IsFinishedRun, IsStuckRun, AreWaiting, run_text}
-use Rattle.gup.specs.Summary.{summary_text}
+use Rattle.gup.specs.Stuck.{IsFinishedRun, IsStuckRun, AreWaiting, run_text, summary_text}
 use Rattle.gup_spec_grammar.specs.Grammar.{Accepts}
 use Rattle.gup_script.specs.Script.{ScriptValue}
 
@@ -46,17 +45,22 @@ IsToldIn words Trace = IsTraced words
 abbrev pub RunsScript : List (List ℕ) → Type 0
 RunsScript words = IsRun words ⊎ IsTraced words
 
+-- The command `check`: that word alone.
+abbrev pub IsChecked : List (List ℕ) → Type 0
+IsChecked words = words ≡ codes "check" ∷ []
+
 -- The command `make`: that word, and a number below 2^64, as it is spelled without a sign or a zero in front.
 abbrev pub IsMake : List (List ℕ) → (n : ℕ) → Type 0
 IsMake words n = (words ≡ codes "make" ∷ decimal n ∷ []) × (n < 2 ^ 64)
 
--- the words are a command: one of the three
+-- the words are a command: one of the four
 abbrev pub IsCommand : List (List ℕ) → Type 0
-IsCommand words = RunsScript words ⊎ ((n : ℕ) × IsMake words n)
+IsCommand words = RunsScript words ⊎ IsChecked words ⊎ ((n : ℕ) × IsMake words n)
 
 -- the words are those of this command
 abbrev pub IsAsked : List (List ℕ) → Command → Type 0
 IsAsked words (Run format) = IsToldIn words format
+IsAsked words Check = IsChecked words
 IsAsked words (Make n) = IsMake words n
 
 -- the statuses that `run` and `trace` have

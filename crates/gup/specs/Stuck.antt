@@ -9,6 +9,7 @@ use Rattle.gup_spec_turns.specs.Run.{RunState, IsCoreRun, waiting_in}
 use Rattle.gup_sched.specs.Ran.{IsStuckAt}
 use Rattle.gup_lines.specs.Text.{text_of}
 use Rattle.gup_front.specs.Lines.{stuck_of}
+use Rattle.gup_summary.specs.Summary.{summary_lines}
 
 -- the journal is the script's core run, in which every actor has finished
 abbrev pub IsFinishedRun : ScriptValue → List NoteValue → Type 0
@@ -35,3 +36,7 @@ stuck_text script end = stuck_lines script end (length script.actors)
 -- the text of a run: the answers, and after them the actors that are stuck
 abbrev pub run_text : ScriptValue → List NoteValue → RunState → List ℕ
 run_text script notes end = text_of script notes ++ stuck_text script end
+
+-- the text of the summary of a run: its four lines, and after them the actors that are stuck at the end
+abbrev pub summary_text : ScriptValue → List NoteValue → RunState → List ℕ
+summary_text script notes end = summary_lines notes end.turns ++ stuck_text script end

@@ -1,6 +1,6 @@
 //! What the words after the program's name ask for.
 ghost use Rattle.std.specs.Prelude.{◌≡◌, ◌↔◌, [], ◌∷◌, IsTrue, IfSome, None, map, string_bytes};
-ghost use Rattle.gup.specs.Report.{IsToldIn, RunsScript, IsCommand, IsAsked};
+ghost use Rattle.gup.specs.Report.{RunsScript, IsChecked, IsCommand, IsAsked};
 
 use gup_read_words::number;
 
@@ -18,6 +18,8 @@ pub enum Format {
 pub enum Command {
     /// `run` or `trace`: run the script that the source has, and tell the run so.
     Run(Format),
+    /// `check`: judge the trace that the source has.
+    Check,
     /// `make N`: run the script that is made from this number.
     Make(u64),
 }
@@ -28,20 +30,21 @@ pub fn command_of(words: &[String]) -> Option<Command>
     ensures none { result ≡ None → IsCommand (map string_bytes words.now) → ⊥ }
 {
     match words {
-        [word] => Some(Command::Run(format_of(word.as_str())?)),
+        [word] => one_word(word.as_str()),
         [word, count] if word.as_str() == "make" => Some(Command::Make(number(count.as_str())?)),
         _ => None,
     }
 }
 
-// How the word asks for a run, if it does.
-fn format_of(word: &str) -> Option<Format>
-    ensures found { IfSome result (IsToldIn (word.now ∷ [])) }
-    ensures none { result ≡ None → RunsScript (word.now ∷ []) → ⊥ }
+// The command that is one word.
+fn one_word(word: &str) -> Option<Command>
+    ensures found { IfSome result (IsAsked (word.now ∷ [])) }
+    ensures none { result ≡ None → (RunsScript (word.now ∷ []) → ⊥) × (IsChecked (word.now ∷ []) → ⊥) }
 {
     match word {
-        "run" => Some(Format::Answers),
-        "trace" => Some(Format::Trace),
+        "run" => Some(Command::Run(Format::Answers)),
+        "trace" => Some(Command::Run(Format::Trace)),
+        "check" => Some(Command::Check),
         _ => None,
     }
 }

@@ -4,10 +4,11 @@
 ghost use Rattle.std.specs.Prelude.{◌≡◌};
 ghost use Rattle.std.specs.Process.{exit_status};
 
+#[cfg(test)]
+mod checks;
 mod command;
 #[cfg(test)]
 mod examples;
-mod summary;
 #[cfg(test)]
 mod tests;
 mod text;

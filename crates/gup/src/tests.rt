@@ -13,7 +13,7 @@ use std::test::Fail;
 const HEAD: &str = "gup 1\nframes 8 8 64\nprocess p\nthread t p\n";
 
 /// The script of `examples/first.gup`, and its text.
-const FIRST: &str =
+pub(crate) const FIRST: &str =
     "gup 1\nframes 8 8 64\nprocess p\nthread t p\non t map 5 1 rw\non t load 5.0\non t store 5.0 7\non t load 5.0\non t unmap 5 1\non t load 5.0\n";
 
 const FIRST_TEXT: &str = "t 1 ok\nt 2 ok 0\nt 3 ok\nt 4 ok 7\nt 5 ok\nt 6 missing\n";
@@ -430,7 +430,7 @@ impl Sink for ByteSink {
     }
 }
 
-fn owned(alloc: Global, words: &[&str]) -> Result<Vec<String>, AllocError> {
+pub(crate) fn owned(alloc: Global, words: &[&str]) -> Result<Vec<String>, AllocError> {
     let mut owned = Vec::new(alloc);
     for word in words {
         owned.push(String::from_str(alloc, word)?)?;
@@ -439,7 +439,7 @@ fn owned(alloc: Global, words: &[&str]) -> Result<Vec<String>, AllocError> {
 }
 
 /// The program on a source and a sink that never fail.
-fn expect(
+pub(crate) fn expect(
     rt: &impl Abort,
     alloc: Global,
     words: &[&str],
@@ -486,10 +486,12 @@ fn traces(rt: HostRuntime) -> Result<(), Fail> {
 
 #[test]
 fn words_that_are_no_command(rt: HostRuntime) -> Result<(), Fail> {
-    let words: [&[&str]; 14] = [
+    let words: [&[&str]; 16] = [
         &[],
         &["run", "slow"],
         &["trace", "run"],
+        &["check", "trace"],
+        &["Check"],
         &["make"],
         &["make", "01"],
         &["make", "+1"],

@@ -19,7 +19,10 @@ ghost use Rattle.gup_lines.specs.Text.{text_of, outcomes_of};
 ghost use Rattle.gup.specs.Cause.{HasCauses};
 ghost use Rattle.gup_spec_journal.specs.Stale.{AreStaleSeen};
 ghost use Rattle.gup.specs.Stuck.{IsFinishedRun, IsStuckRun, run_text};
-ghost use Rattle.gup.specs.Report.{IsRun, IsTraced, IsToldIn, RunsScript, IsMake, IsCommand, IsStatus, IsMadeStatus, HasRun, IsEndOfRun, IsToldRun, IsMadeRun, IsPartlyTold, IsEnd, usage};
+ghost use Rattle.gup.specs.Report.{IsRun, IsTraced, IsToldIn, RunsScript, IsChecked, IsMake, IsCommand, IsStatus, IsMadeStatus, HasRun, IsEndOfRun, IsToldRun, IsMadeRun, IsPartlyTold, IsEnd, usage};
+ghost use Rattle.gup_check_front.specs.Reading.{OfTrace, AreTrace, IsNoTraceFor, IsTraceReadThrough};
+ghost use Rattle.gup_check_front.specs.Judged.{IsCheckStatus, HasJudged, IsJudgedIn, IsPartlyJudged, IsReadAndJudged};
+ghost use Rattle.gup_spec_check.specs.Verdicts.{IsFirstWrong};
 ghost use Rattle.gup_spec_trace.specs.Trace.{trace_text, IsTrace};
 ghost use Rattle.gup_spec_trace.specs.Written.{CanBeWritten};
 ghost use Rattle.std.specs.List.{All};
@@ -28,9 +31,9 @@ ghost use Rattle.gup_make.specs.Made.{made_text};
 ghost use Rattle.gup_spec_grammar.specs.Grammar.{Accepts};
 
 use crate::command::{Command, Format, command_of};
-use crate::summary::summary_lines;
 use crate::text::{journal_text, push_stuck_lines};
 use gup_base::NoMemory;
+use gup_check_front::{accepted_notes_are_never_wrong, check_source};
 use gup_core::Machine;
 use gup_front::{ReadScript, Unread, read, refusal_line};
 use gup_io::{Sink, Source, write_all};
@@ -50,6 +53,7 @@ use gup_read::{one_script, read_script, scripts_have_no_fault};
 use gup_sched::{Run, run_machine};
 use gup_script::Script;
 use gup_spec_grammar::{ReadRefusal, ScriptFault};
+use gup_summary::summary_lines;
 use gup_trace::push_journal;
 use std::alloc::Global;
 
@@ -290,11 +294,12 @@ fn show_usage<K: Sink>(alloc: Global, sink: &mut K) -> Report
 /// length of a script, runs it, and writes a line for each answer, and after these one for each actor that is stuck;
 /// `trace` does the same, and writes the bytes of the script, the line `journal`, and a line for each note of the run's journal;
 /// `make N` runs the script that is made from the number N, and writes four lines that count its answers, and after
-/// these one for each actor that is stuck. It leaves the source unread.
+/// these one for each actor that is stuck; it leaves the source unread. `check` reads a trace from the source, to its end or past
+/// the length of a trace, and writes whether its notes are accepted: `yes`, `open`, or `no` and the number of the first that isn't.
 ///
-/// The statuses: 0, the script ran and the sink took its whole text; 2, the words are no command; 3, the bytes are
-/// no script; 4, the same as 0, but that actors are stuck: they wait at the end of the run; 5, a read failed; 6, a
-/// write failed; 7, memory ran out.
+/// The statuses: 0, the script ran, or the notes are accepted, and the sink took the whole text; 2, the words are no command;
+/// 3, the bytes are no script, or no trace; 4, the same as 0, but that actors are stuck: they wait at the end of the run; 5, a
+/// read failed; 6, a write failed; 7, memory ran out; 8, a note isn't accepted.
 #[tactic(auto, using(crate::proofs::Commands::not_both, crate::proofs::Commands::not_told, crate::proofs::Commands::one_number))]
 pub fn gup<S: Source, K: Sink>(
     alloc: Global,
@@ -350,6 +355,34 @@ pub fn gup<S: Source, K: Sink>(
     // an unmap, a discard, a protect, a store, a pin or a move of the page; or where the slot was never filled.
     ensures stale { RunsScript (map string_bytes words.now) → HasRun result.status
         → OfScript (S.remaining source.old) (λ script. AreStaleSeen script result.journal.notes) }
+
+    // `check` judges the trace that the source has: where the source tells its bytes, they are a trace, whole to their end, and what the
+    // sink took is the line of its verdict, and nothing else. That is `no n`, at status 8, exactly where the notes before number n are
+    // accepted and with that one aren't, `yes` exactly where all are accepted and each operation has ended, and else `open`.
+    ensures checked { IsChecked (map string_bytes words.now) → HasJudged result.status → AreTrace (S.remaining source.old) }
+    ensures verdict { IsChecked (map string_bytes words.now) → HasJudged result.status
+        → OfTrace (S.remaining source.old) (IsJudgedIn result.status (K.taken sink.old) (K.taken sink.new)) }
+    ensures check_statuses { IsChecked (map string_bytes words.now) → IsCheckStatus result.status }
+    ensures check_complete { IsChecked (map string_bytes words.now)
+        → (HasCause (S.faults source.old) (S.faults source.new) → ⊥)
+        → (HasCause (K.faults sink.old) (K.faults sink.new) → ⊥)
+        → OfTrace (S.remaining source.old) (λ script notes. HasJudged result.status ⊎ (result.status ≡ 7)) }
+    ensures check_refused { IsChecked (map string_bytes words.now) → result.status ≡ 3
+        → OfTrace (S.remaining source.old) (λ script notes. ⊥) }
+    ensures check_refusal { IsChecked (map string_bytes words.now) → IfSome result.refusal (IsNoTraceFor (S.remaining source.old)) }
+    ensures check_reading { IsChecked (map string_bytes words.now)
+        → Loses 0 67108865 (S.remaining source.old) (S.remaining source.new) }
+    ensures check_read_through { IsChecked (map string_bytes words.now) → (result.status ≡ 5 → ⊥) → (result.status ≡ 7 → ⊥)
+        → IsTraceReadThrough (S.remaining source.old) (S.remaining source.new) }
+    ensures verdict_part { IsChecked (map string_bytes words.now) → result.status ≡ 6
+        → OfTrace (S.remaining source.old) (IsPartlyJudged (K.taken sink.old) (K.taken sink.new)) }
+    ensures refused_or_judged { IsChecked (map string_bytes words.now) → result.status ≡ 6 → IsSome result.refusal
+        ⊎ IsReadAndJudged (S.remaining source.old) (K.taken sink.old) (K.taken sink.new) }
+    ensures check_unrun { IsChecked (map string_bytes words.now) → result.journal.notes ≡ [] }
+
+    // So the trace of a run is never answered with `no`.
+    ensures never_wrong { RunsScript (map string_bytes words.now) → HasRun result.status
+        → OfScript (S.remaining source.old) (λ script. (n : ℕ) → IsFirstWrong script result.journal.notes n → ⊥) }
 
     // `make N` runs the script that is made from N, and all that is said here of a script that has run is so of it. What the
     // sink took is the summary of that run and, at status 4, the actors that are stuck at its end. The source is unread, and no
@@ -429,11 +462,16 @@ pub fn gup<S: Source, K: Sink>(
 {
     one_script();
     scripts_have_no_fault();
+    accepted_notes_are_never_wrong();
     let Some(command) = command_of(words) else {
         return show_usage(alloc, sink);
     };
     let format = match command {
         Command::Make(n) => return make_and_write(alloc, sink, n),
+        Command::Check => {
+            let checked = check_source(alloc, source, sink);
+            return Report::unrun(alloc, checked.status, checked.refusal);
+        }
         Command::Run(format) => format,
     };
     match read(alloc, source) {

@@ -1,4 +1,4 @@
-use Rattle.std.proofs.Common.{◌≡◌, ℕ, Bool, true, false, List, subst, refl, length, inl, inr}
+use Rattle.std.proofs.Common.{◌≡◌, ℕ, Bool, true, false, List, subst, refl, sym, length, ◌⊎◌, inl, inr}
 use Rattle.std.specs.Io.KnownBytes.{Appends}
 use Rattle.gup_script.specs.Script.{ScriptValue}
 use Rattle.gup_spec_journal.specs.Place.{starts_born}
@@ -24,7 +24,10 @@ use Rattle.gup.specs.declared.command.Format.{Format}
 use Rattle.gup.specs.declared.command.Format.TheVariants.{Answers, Trace}
 use Rattle.gup_spec_trace.specs.Trace.{trace_text, IsTrace}
 use Rattle.gup.proofs.Told.{of_text, are_bytes, none_told}
-use Rattle.gup.proofs.Commands.{one_number, asked_format}
+use Rattle.gup.proofs.Commands.{one_number, asked_format, asked_check, asked_run, checked_not_run}
+use Rattle.gup_check_front.specs.Judged.{HasJudged}
+use Rattle.gup_check_front.specs.Reading.{OfTrace}
+use Rattle.gup_spec_check.specs.Verdicts.{IsFirstWrong}
 use Rattle.gup.specs.Stuck.{IsFinishedRun, IsStuckRun, run_text}
 use Rattle.gup.proofs.RunEnd.{ran, traced_written, finished_written, stuck_written, finished_run, stuck_run, ended}
 use Rattle.gup.proofs.top.gup.Goals as goal
@@ -248,3 +251,28 @@ returns-in-Make-clause-made_part g c n made six =
     let same = asked_number _ c.in-Some.command c.in-Make.n n c.in-Make.is c.in-Some.ensures.found made in
     let P : ℕ → Type 0 = λ k. (stuck : Bool) × (text : List ℕ) × IsMadeRun k stuck text × AppendsPart (g.K.Sink.taken c.args.sink.now) (g.K.Sink.taken c.make_and_write.new.sink) text in
     subst P same (c.make_and_write.ensures.part six)
+
+pub returns-in-Ok-clause-never_wrong : goal.returns-in-Ok-clause-never_wrong
+returns-in-Ok-clause-never_wrong g c command has =
+    let script = c.in-Ok.found.script in
+    let report = c.run_and_write.result in
+    let W : List ℕ → Type 0 = λ text. Appends (g.K.Sink.taken c.args.sink.now) (g.K.Sink.taken c.run_and_write.new.sink) text in
+    let P : ScriptValue → Type 0 = λ s. (n : ℕ) → IsFirstWrong s report.journal.notes n → ⊥ in
+    of_script (g.S.Source.remaining c.args.source.now) script P c.one_script.ensures c.in-Ok.ensures.script
+    (ran c.in-Run.format c.in-Ok.found.text.items script report.journal.notes report.status W (P script) c.run_and_write.ensures.finished c.run_and_write.ensures.stuck (λ stuck end run n. c.accepted_notes_are_never_wrong.ensures script report.journal.notes n run.accepted) has)
+
+-- `check` is not `run` or `trace`
+
+pub returns-in-Check-clause-check_complete : goal.returns-in-Check-clause-check_complete
+returns-in-Check-clause-check_complete g c checked read_well wrote_well =
+    let P : ℕ → Type 0 = λ status. OfTrace (g.S.Source.remaining c.args.source.now) (λ script notes. HasJudged status ⊎ (status ≡ 7)) in
+    subst P (sym c.unrun.ensures.status) (c.check_source-checked.ensures.complete read_well wrote_well)
+
+pub returns-in-Check-clause-read_through : goal.returns-in-Check-clause-read_through
+returns-in-Check-clause-read_through g c runs no_fault no_memory = absurd (checked_not_run _ (asked_check _ c.in-Some.command c.in-Check.is c.in-Some.ensures.found) runs)
+
+pub returns-in-Ok-clause-check_read_through : goal.returns-in-Ok-clause-check_read_through
+returns-in-Ok-clause-check_read_through g c checked no_fault no_memory = absurd (checked_not_run _ checked (asked_run _ c.in-Some.command c.in-Run.format c.in-Run.is c.in-Some.ensures.found))
+
+pub returns-in-Err-Fault-clause-check_read_through : goal.returns-in-Err-Fault-clause-check_read_through
+returns-in-Err-Fault-clause-check_read_through g c checked no_fault no_memory = absurd (checked_not_run _ checked (asked_run _ c.in-Some.command c.in-Run.format c.in-Run.is c.in-Some.ensures.found))

@@ -2,7 +2,7 @@ use Rattle.std.proofs.Common.{◌≡◌, ◌++◌, ℕ, List, sym, ap, subst, �
 use Rattle.gup_script.specs.Script.{ScriptValue}
 use Rattle.gup_spec_turns.specs.Run.{RunState}
 use Rattle.gup.specs.Stuck.{stuck_text}
-use Rattle.gup.specs.Summary.{summary_lines}
+use Rattle.gup_summary.specs.Summary.{summary_lines}
 use Rattle.gup.proofs.RunEnd.{WaitsSo}
 use Rattle.gup.proofs.top.tell_made_run.Goals as goal
 

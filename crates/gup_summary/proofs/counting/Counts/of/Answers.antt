@@ -1,6 +1,6 @@
 use Rattle.std.proofs.Common.{sym, ap, ◌∙◌, take_all, arith}
-use Rattle.gup.proofs.Counts.{answers_over, oks_over, answers_counted, oks_counted, few_of_first}
-use Rattle.gup.proofs.summary.Counts.of.Goals as goal
+use Rattle.gup_summary.proofs.Counts.{answers_over, oks_over, answers_counted, oks_counted, few_of_first}
+use Rattle.gup_summary.proofs.counting.Counts.of.Goals as goal
 
 pub add-requires-clause-answers : goal.add-requires-clause-answers
 add-requires-clause-answers c =

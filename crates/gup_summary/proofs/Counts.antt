@@ -12,8 +12,8 @@ use Rattle.gup_plain.specs.declared.note.What.{What}
 use Rattle.gup_plain.specs.declared.note.What.TheVariants.{Silent, Idle, Wait, Event, Done}
 use Rattle.gup_lines.specs.declared.outcome.Outcome.{Outcome}
 use Rattle.gup_lines.specs.Text.{answer_text, outcomes_from, outcomes_of, words_after}
-use Rattle.gup.specs.Counts.{is_ok, answers_in, oks_in}
-use Rattle.gup.specs.Summary.{says_ok}
+use Rattle.gup_summary.specs.Counts.{is_ok, answers_in, oks_in}
+use Rattle.gup_summary.specs.Summary.{says_ok}
 
 -- whatever words were moved
 ok_said : (answer : Answer) (words : List ℕ) → bytes_eq (take 2 (answer_text answer words)) (codes "ok") ≡ is_ok answer

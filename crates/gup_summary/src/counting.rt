@@ -1,8 +1,8 @@
 //! The summary of a run.
 ghost use Rattle.std.specs.Prelude.{◌≡◌, ◌+◌, ◌<◌, ◌%◌, ◌^◌, ◌++◌, length, count_by, IfOk, OnOk};
 ghost use Rattle.gup_lines.specs.Text.{outcomes_of};
-ghost use Rattle.gup.specs.Summary.{says_ok, word_of, word_in, words_sum, counted, summary_lines};
-ghost use Rattle.gup.specs.Counts.{is_ok, answers_in, oks_in};
+ghost use Rattle.gup_summary.specs.Summary.{says_ok, word_of, word_in, words_sum, counted, summary_lines};
+ghost use Rattle.gup_summary.specs.Counts.{is_ok, answers_in, oks_in};
 
 use gup_base::NoMemory;
 use gup_lines::push_text;

@@ -1,7 +1,7 @@
 use Rattle.std.proofs.Common.{◌≡◌, take}
-use Rattle.gup.specs.Summary.{words_sum}
-use Rattle.gup.proofs.Counts.{answers_over, oks_over}
-use Rattle.gup.proofs.summary.Counts.of.Given as goal
+use Rattle.gup_summary.specs.Summary.{words_sum}
+use Rattle.gup_summary.proofs.Counts.{answers_over, oks_over}
+use Rattle.gup_summary.proofs.counting.Counts.of.Given as goal
 
 -- the notes so far are counted
 abbrev pub invariant-loop-note : goal.invariant-loop-note

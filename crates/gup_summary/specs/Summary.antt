@@ -7,11 +7,8 @@ use Rattle.gup_plain.specs.declared.event.PlainEvent.{PlainEvent}
 use Rattle.gup_plain.specs.declared.event.PlainEvent.TheVariants.{Load, Look, MoveOut, MoveIn}
 use Rattle.gup_plain.specs.declared.note.What.{What}
 use Rattle.gup_plain.specs.declared.note.What.TheVariants.{Event}
-use Rattle.gup_script.specs.Script.{ScriptValue}
-use Rattle.gup_spec_turns.specs.Run.{RunState}
 use Rattle.gup_lines.specs.declared.outcome.Outcome.{Outcome}
 use Rattle.gup_lines.specs.Text.{answer_text, outcomes_of}
-use Rattle.gup.specs.Stuck.{stuck_text}
 
 -- the text of the answer begins with `ok`
 abbrev pub says_ok : Outcome → Bool
@@ -43,7 +40,3 @@ summary_lines notes turns =
     ++ counted (codes "ok") (count_by says_ok (outcomes_of notes))
     ++ counted (codes "turns") turns
     ++ counted (codes "words") (words_sum notes)
-
--- the text of the summary: the four lines, and after them the actors that are stuck at the end of the run
-abbrev pub summary_text : ScriptValue → List NoteValue → RunState → List ℕ
-summary_text script notes end = summary_lines notes end.turns ++ stuck_text script end

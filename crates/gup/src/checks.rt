@@ -1,0 +1,225 @@
+//! Tests of the command `check`.
+use super::*;
+use crate::examples::EXAMPLES;
+use crate::tests::{FIRST, expect, owned};
+use gup_io::{MemSink, MemSource, SureSource};
+use gup_spec_grammar::{Reason, ScriptFault};
+use std::alloc::Global;
+use std::process::Abort;
+use std::test::Fail;
+
+/// The notes of the first run.
+const NOTES: &str =
+    "1 t 1 map p 5 1 rw\n1 t 1 done ok\n2 t 2 load p 5.0 0\n2 t 2 done ok 0\n3 t 3 store p 5.0 7\n3 t 3 done ok\n4 t 4 load p 5.0 7\n4 t 4 done ok 7\n5 t 5 unmap p 5\n5 t 5 done ok\n6 t 6 done missing\n";
+
+/// Notes behind the script of the first run, with the verdicts on them.
+const VERDICTS: [(&str, u8, &str); 16] = [
+    (NOTES, 0, "yes\n"),
+    ("", 0, "open\n"),
+    ("1 t 1 map p 5 1 rw\n", 0, "open\n"),
+    // Silent turns may stand anywhere in an operation.
+    (
+        "1 t 1 silent\n2 t 1 silent\n3 t 1 map p 5 1 rw\n3 t 1 done ok\n",
+        0,
+        "open\n",
+    ),
+    // Another value, another page, another actor's word for it.
+    (
+        "1 t 1 map p 5 1 rw\n1 t 1 done ok\n2 t 2 load p 5.0 8\n2 t 2 done ok 8\n",
+        8,
+        "no 3\n",
+    ),
+    (
+        "1 t 1 map p 5 1 rw\n1 t 1 done ok\n2 t 2 load p 5.0 0\n2 t 2 done ok 8\n",
+        8,
+        "no 4\n",
+    ),
+    ("1 t 1 map p 6 1 rw\n", 8, "no 1\n"),
+    (
+        "1 t 1 map p 5 1 rw\n1 t 1 done ok\n2 t 2 load p 5.1 0\n",
+        8,
+        "no 3\n",
+    ),
+    // Another turn, another operation, a note too many.
+    ("2 t 1 map p 5 1 rw\n", 8, "no 1\n"),
+    ("1 t 1 map p 5 1 rw\n3 t 1 done ok\n", 8, "no 2\n"),
+    ("1 t 2 map p 5 1 rw\n", 8, "no 1\n"),
+    (
+        "1 t 1 map p 5 1 rw\n1 t 1 done ok\n1 t 1 done ok\n",
+        8,
+        "no 3\n",
+    ),
+    // Answers that the plain state doesn't give.
+    ("1 t 1 done overlap\n", 8, "no 1\n"),
+    (
+        "1 t 1 map p 5 1 rw\n1 t 1 done ok\n2 t 2 done missing\n",
+        8,
+        "no 3\n",
+    ),
+    // Who isn't at an end isn't idle, and who waits has a cause.
+    ("1 t 1 idle\n", 8, "no 1\n"),
+    ("1 t 1 wait process p\n", 8, "no 1\n"),
+];
+
+/// Traces of other scripts, with the verdicts on them: what is checked of each kind of operation beside its own events.
+const OTHERS: [(&str, u8, &str); 12] = [
+    // A written turn is of the written actor.
+    (
+        "gup 1\nframes 8 8 64\nprocess p\nthread t p\nthread u p\non t load 5.0\non u load 5.0\nturns u\njournal\n1 t 1 done missing\n",
+        8,
+        "no 1\n",
+    ),
+    (
+        "gup 1\nframes 8 8 64\nprocess p\nthread t p\nthread u p\non t load 5.0\non u load 5.0\nturns u\njournal\n1 u 1 done missing\n2 t 1 done missing\n3 t 2 idle\n",
+        0,
+        "yes\n",
+    ),
+    // A short pin ends with its own cause.
+    (
+        "gup 1\nframes 8 8 64\nprocess p\nthread t p\non t map 5 1 rw\non t pin h 5 2 write\njournal\n1 t 1 map p 5 1 rw\n1 t 1 done ok\n2 t 2 pintry p 5 write\n3 t 2 pinok h\n3 t 2 done ok 1 of 2 missing\n",
+        0,
+        "yes\n",
+    ),
+    (
+        "gup 1\nframes 8 8 64\nprocess p\nthread t p\non t map 5 1 rw\non t pin h 5 2 write\njournal\n1 t 1 map p 5 1 rw\n1 t 1 done ok\n2 t 2 pintry p 5 write\n3 t 2 pinok h\n3 t 2 done ok 1 of 2 forbidden\n",
+        8,
+        "no 5\n",
+    ),
+    // Want of a frame is no denial, and may be anywhere.
+    (
+        "gup 1\nframes 8 8 64\nprocess p\nthread t p\non t map 5 1 rw\non t pin h 5 1 write\njournal\n1 t 1 map p 5 1 rw\n1 t 1 done ok\n2 t 2 done noframe\n",
+        0,
+        "yes\n",
+    ),
+    // A store between two loads is seen, and an older value isn't.
+    (
+        "gup 1\nframes 8 8 64\nprocess p\nthread t p\nthread u p\non t map 5 1 rw\non t load 5.0\non u store 5.0 7\njournal\n1 t 1 map p 5 1 rw\n1 t 1 done ok\n2 u 1 store p 5.0 7\n2 u 1 done ok\n3 t 2 load p 5.0 0\n",
+        8,
+        "no 5\n",
+    ),
+    // A discard passes no page that is there all the time, and one that comes later.
+    (
+        "gup 1\nframes 8 8 64\nprocess p\nthread t p\non t map 5 2 rw\non t discard 5 2\njournal\n1 t 1 map p 5 2 rw\n1 t 1 done ok\n2 t 2 discard p 6\n",
+        8,
+        "no 3\n",
+    ),
+    (
+        "gup 1\nframes 8 8 64\nprocess p\nthread t p\nthread u p\non t map 6 1 rw\non t discard 5 2\non u map 5 1 rw\njournal\n1 t 1 map p 6 1 rw\n1 t 1 done ok\n2 t 2 silent\n3 u 1 map p 5 1 rw\n3 u 1 done ok\n4 t 2 discard p 6\n4 t 2 done ok\n",
+        0,
+        "yes\n",
+    ),
+    // A fork copies the word of its own page, and waits end where they must.
+    (
+        "gup 1\nframes 8 8 64\nprocess p\nchild c\nthread t p\nthread u c\non t map 5 1 rw\non t fork c\non u load 5.0\njournal\n1 u 1 wait process c\n2 t 1 map p 5 1 rw\n2 t 1 done ok\n3 t 2 forkbegin p c\n4 u 1 wait process c\n5 t 2 forkpage p c 5\n6 t 2 forkend p c\n6 t 2 done ok\n7 u 1 load c 5.0 0\n7 u 1 done ok 0\n",
+        0,
+        "yes\n",
+    ),
+    (
+        "gup 1\nframes 8 8 64\nprocess p\nchild c\nthread t p\nthread u c\non t map 5 1 rw\non t fork c\njournal\n1 t 1 map p 5 1 rw\n1 t 1 done ok\n2 t 2 forkbegin p c\n3 t 2 forkpage p c 6\n",
+        8,
+        "no 4\n",
+    ),
+    (
+        "gup 1\nframes 8 8 64\nprocess p\nchild c\nthread t p\nthread u c\non t fork c\non u load 5.0\njournal\n1 t 1 forkbegin p c\n2 t 1 forkend p c\n2 t 1 done ok\n3 u 1 wait process c\n",
+        8,
+        "no 4\n",
+    ),
+    // Who waits for a lock names one who holds it.
+    (
+        "gup 1\nframes 8 8 64\nprocess p\nchild c\nthread t p\nthread u p\non t fork c\non u load 5.0\njournal\n1 u 1 wait actor t\n",
+        8,
+        "no 1\n",
+    ),
+];
+
+fn expect_verdict(
+    rt: &impl Abort,
+    alloc: Global,
+    notes: &str,
+    status: u8,
+    verdict: &str,
+) -> Result<(), Fail> {
+    let trace = format!(in alloc; "{FIRST}journal\n{notes}")?;
+    let report = expect(rt, alloc, &["check"], trace.as_str(), status, verdict)?;
+    assert!(rt; report.journal.notes().is_empty());
+    assert_eq!(rt; report.refusal, None);
+    Ok(())
+}
+
+#[test]
+fn verdicts(rt: HostRuntime) -> Result<(), Fail> {
+    for (notes, status, verdict) in &VERDICTS {
+        expect_verdict(&rt, rt.alloc(), notes, *status, verdict)?;
+    }
+    for (trace, status, verdict) in &OTHERS {
+        expect(&rt, rt.alloc(), &["check"], trace, *status, verdict)?;
+    }
+    Ok(())
+}
+
+/// The trace of each example is accepted: wholly where its run has finished, and openly where actors are stuck.
+fn expect_accepted(rt: &impl Abort, alloc: Global, script: &str, status: u8) -> Result<(), Fail> {
+    let words = owned(alloc, &["trace"])?;
+    let mut source = SureSource::new(script.as_bytes().to_vec(alloc)?);
+    let mut sink = MemSink::with_room(alloc, 1_000_000, Vec::new(alloc))?;
+    let report = gup(alloc, words.as_slice(), &mut source, &mut sink);
+    assert_eq!(rt; report.status, status, "{script}");
+    let words = owned(alloc, &["check"])?;
+    let mut source = SureSource::new(sink.bytes().to_vec(alloc)?);
+    let mut sink = MemSink::with_room(alloc, 99, Vec::new(alloc))?;
+    let report = gup(alloc, words.as_slice(), &mut source, &mut sink);
+    assert_eq!(rt; report.status, 0, "{script}");
+    let verdict = if status == 0 { "yes\n" } else { "open\n" };
+    assert_eq!(rt; sink.bytes(), verdict.as_bytes(), "{script}");
+    Ok(())
+}
+
+#[test]
+fn traces_of_examples(rt: HostRuntime) -> Result<(), Fail> {
+    for (script, status, _text) in EXAMPLES {
+        expect_accepted(&rt, rt.alloc(), script, status)?;
+    }
+    Ok(())
+}
+
+/// Texts that are no traces.
+#[test]
+fn refused_traces(rt: HostRuntime) -> Result<(), Fail> {
+    for (behind, line, reason, text) in [
+        ("", 11, Reason::Short, "line 11: short\n"),
+        (
+            "journal\n1 t 1 map p 05 1 rw\n",
+            12,
+            Reason::Note,
+            "line 12: note\n",
+        ),
+        (
+            "journal\n1 t 1 map p 5 1 rw\n1 u 1 silent\n",
+            13,
+            Reason::Note,
+            "line 13: note\n",
+        ),
+        ("on t\njournal\n", 11, Reason::Shape, "line 11: shape\n"),
+    ] {
+        let text_before = format!(in rt.alloc(); "{FIRST}{behind}")?;
+        let report = expect(&rt, rt.alloc(), &["check"], text_before.as_str(), 3, text)?;
+        assert_eq!(rt; report.refusal, Some(ScriptFault { line, reason }));
+    }
+    Ok(())
+}
+
+/// The status of a verdict gives way to that of a write that failed, and a read that fails leaves nothing written.
+#[test]
+fn checks_and_faults(rt: HostRuntime) -> Result<(), Fail> {
+    let words = owned(rt.alloc(), &["check"])?;
+    let trace = format!(in rt.alloc(); "{FIRST}journal\n1 t 2 silent\n1 t 1 done ok\n")?;
+    for (read, room, status, text) in [(9, 99, 8, "no 2\n"), (9, 3, 6, "no "), (1, 99, 5, "")] {
+        let reads = [read].to_vec(rt.alloc())?;
+        let mut source = MemSource::new(trace.as_bytes().to_vec(rt.alloc())?, reads);
+        let mut sink = MemSink::with_room(rt.alloc(), room, Vec::new(rt.alloc()))?;
+        let report = gup(rt.alloc(), words.as_slice(), &mut source, &mut sink);
+        assert_eq!(rt; report.status, status);
+        assert_eq!(rt; sink.bytes(), text.as_bytes());
+    }
+    Ok(())
+}
