@@ -1,9 +1,9 @@
 //! Tests of the command `check`.
 use super::*;
-use crate::examples::EXAMPLES;
 use crate::tests::{FIRST, expect, owned};
 use gup_io::{MemSink, MemSource, SureSource};
 use gup_spec_grammar::{Reason, ScriptFault};
+use gup_test_cases::EXAMPLES;
 use std::alloc::Global;
 use std::process::Abort;
 use std::test::Fail;

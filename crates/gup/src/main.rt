@@ -8,8 +8,6 @@ ghost use Rattle.std.specs.Process.{exit_status};
 mod checks;
 mod command;
 #[cfg(test)]
-mod examples;
-#[cfg(test)]
 mod tests;
 mod text;
 mod top;
