@@ -4,16 +4,16 @@
 usage: accepted.py [RULE..] < TRACE prints `yes`, `open` or `no N` as `gup check` does. The rules that are named are left out; they can
 be turns, values, denials, passing and waits.
 
-It is a second reading of one definition: written from the specification's papers (02, D2 to D7 and 03, D18), and not from
-the proved one. Each refusal is by one of seven rules:
+It is a second reading of one definition: written from the rules in words, by somebody else, and not from the proved one (`Accepted`
+in crates/gup_spec_accepted). Each refusal is by one of seven rules:
   turns    numbers rise by 0 or 1 from 1, a turn is of one actor, a written turn of the actor that was written
-  shapes   events and answers are those of the actor's operations, in the order of D6
-  events   an event can happen in the plain state (D3), its value aside
+  shapes   events and answers are those of the actor's operations, in their shapes (docs/TRACE.md)
+  events   an event can happen in the plain state, its value aside
   values   what is read is what was written last, and an answer has the value of its event
-  denials  an operation is denied exactly where D4 says so
+  denials  an operation is denied exactly where the plain state denies it
   passing  an unmap or a discard passes only what wasn't mapped at some moment
-  waits    who waits has a reason for it, and who idles has finished (D7)
-Where the papers can be read in two ways the judge is strict, or generous if it is told to be (`doubt`). Two rules are this project's own
+  waits    who waits has a reason for it, and who idles has finished
+Where the rules can be read in two ways the judge is strict, or generous if it is told to be (`doubt`). Two rules are this project's own
 (docs/DECISIONS.md): no operation ends while its process is yet to be born, and a silent turn is one of an operation."""
 import copy
 import sys
@@ -22,7 +22,7 @@ from typing import NamedTuple
 from plain import BORN, FAILED, GROWING, UNBORN, WORDS, Plain, Rules, Wrong, read_trace
 
 LEFT_OUT = ("turns", "values", "denials", "passing", "waits")  # the rules without which a judge can still go on
-# What D4 can say, and which refusals an operation has beside `unborn` (04, section 3).
+# What the plain state can deny, and which refusals an operation has beside `unborn` (docs/SCRIPT.md).
 DENIALS = {"unborn", "missing", "forbidden", "overlap", "full", "notheld", "range"}
 REFUSALS = {
     "map": {"overlap", "full"},
@@ -44,7 +44,7 @@ REFUSALS = {
 NEED_NO_LOCK = {"unpin", "put", "give", "take", "look", "out", "in"}
 
 
-# Where an actor stands in its operation (D6)
+# Where an actor stands in its operation
 
 
 class Answer(NamedTuple):
@@ -76,7 +76,7 @@ def read_answer(operation, fields):
 
 
 class Course:
-    """How far an operation is: whether an event came, what D4 said before the first, and what is left, by its kind."""
+    """How far an operation is: whether an event came, what denied it before the first, and what is left, by its kind."""
 
     def __init__(self, operation, actor):
         self.operation, self.actor, self.begun, self.denied = operation, actor, False, None
@@ -333,7 +333,7 @@ class Standing:
         return other
 
 
-# The judge (D18)
+# The judge
 
 
 class Judge:
@@ -374,7 +374,7 @@ class Judge:
         return self.plain.denial(actor, operation, self.got)
 
     def denied(self, denial, answer):
-        """A denial is answered exactly where D4 gives it."""
+        """A denial is answered exactly where the plain state gives it."""
         if denial:
             self.rules.require(answer == denial, "denials", "another denial is due")
         else:
@@ -430,7 +430,7 @@ class Judge:
         self.plain.happen(self.moment, note.actor, note.what, note.fields)
         if first and operation.kind != "pin":
             alone = "unborn" if note.what == "forkfail" else None
-            self.rules.doubt(course.denied == alone, "the first event stands where D4 decides otherwise")
+            self.rules.doubt(course.denied == alone, "the first event stands where the plain state denies it or doesn't")
 
     def wait(self, actor, what, name):
         operation = self.present(actor)

@@ -1,4 +1,4 @@
-"""Scripts, notes of traces, and the plain state (02, D2 to D4): what the judge of accepted.py stands on, written from the papers."""
+"""Scripts, notes of traces, and the plain state: what the judge of accepted.py stands on, written from the rules in words."""
 import copy
 from dataclasses import dataclass, field
 from typing import NamedTuple
@@ -166,7 +166,7 @@ def read_trace(text):
     return read_script(lines[:front]), [read_note(line) for line in lines[front + 1 :]]
 
 
-# The plain state (D2), its events (D3) and its denials (D4)
+# The plain state, its events and its denials
 
 
 class Page(NamedTuple):
@@ -378,7 +378,7 @@ class Plain:
         new.birth, new.pages = FAILED, {}
 
     def denial(self, actor, operation, got):
-        """What D4 says of an operation that is no pin in this state, or None. `got` has the references that the actor has got."""
+        """What denies an operation that is no pin in this state, or None. `got` has the references that the actor has got."""
         it = operation
         process = self.processes.get(it.process)
         if process is not None and process.birth == FAILED:
@@ -405,7 +405,7 @@ class Plain:
 
     @staticmethod
     def page_denial(process, page, write):
-        """What D4 says of one page of a store or a pin."""
+        """What denies one page of a store or a pin."""
         if process.birth == FAILED:
             return "unborn"
         found = process.named(page)
