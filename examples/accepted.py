@@ -4,7 +4,7 @@
 usage: accepted.py [RULE..] < TRACE prints `yes`, `open` or `no N` as `gup check` does. The rules that are named are left out; they can
 be turns, values, denials, passing and waits.
 
-It is a second reading of one definition: written from the rules in words, by somebody else, and not from the proved one (`Accepted`
+It is a second reading of one definition: written from the rules in words, and not from the proved one (`Accepted`
 in crates/gup_spec_accepted). Each refusal is by one of seven rules:
   turns    numbers rise by 0 or 1 from 1, a turn is of one actor, a written turn of the actor that was written
   shapes   events and answers are those of the actor's operations, in their shapes (docs/TRACE.md)

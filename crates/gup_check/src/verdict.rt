@@ -13,9 +13,12 @@ use gup_script::Script;
 use gup_spec_check::Verdict;
 use std::alloc::Global;
 
-/// Whether the notes of the trace can be the beginning of a journal of its script, in whatever order the actors take their turns: each event can
-/// happen in the plain model and is the next of its operation, each answer is the right one, no page is passed that was named all the
-/// time, and whoever waits has a cause. It takes logarithmic time a note in what the note touches, and a note of n pages n times that.
+/// Whether the notes of the trace are accepted of its script, in whatever order the actors take their turns: each event can happen in the
+/// plain model and is the next of its operation, each answer is the right one, no page is passed that was named all the time, and
+/// whoever waits has a cause. What depends on frames (`noframe`, `unmovable`, `busy`, `untouched`, `stale`) is taken on trust. The only
+/// error is that the program's own memory ran out.
+///
+/// It takes logarithmic time a note in what the note touches, a note of n pages n times that, and a fork's end what was copied.
 pub fn check(alloc: Global, trace: &Trace) -> Result<Verdict, NoMemory>
     ensures { IfOk result (IsVerdict trace.now.script trace.now.journal.notes) }
 {
