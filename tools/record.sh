@@ -4,6 +4,7 @@
 out=$home/crates/gup/out
 program=$out/gup
 orders=$home/crates/gup_orders/out/gup_orders
+pictures=$home/crates/gup_picture/out/gup_picture
 record=$out/gup.sources
 
 # The kit's command.
@@ -18,13 +19,13 @@ sources() {
     ) </dev/null | sha256sum
 }
 
-checksum() { cat "$program" "$orders" | sha256sum; }
+checksum() { cat "$program" "$orders" "$pictures" | sha256sum; }
 
 # The record of programs that were proved and built from the sources with this checksum. Its time is one second before the
 # moment at which they were looked at.
 write_record() {
     local looked=$EPOCHSECONDS
-    [[ -x $program && -x $orders && $(sources) == "$1" ]] || return 1
+    [[ -x $program && -x $orders && -x $pictures && $(sources) == "$1" ]] || return 1
     printf '%s\n' "$1" "$(checksum)" "$(kit version </dev/null)" >"$record" && touch -d "@$((looked - 1))" "$record"
 }
 
@@ -33,8 +34,9 @@ write_record() {
 # written shows by a time of change that is later, its own or its folder's; only then the checksums are taken again.
 is_proved() {
     local newer folder looked=$EPOCHSECONDS lines
-    [[ -x $program && -x $orders && -r $record ]] || return 1
-    newer=$(cd "$home" && find crates.txt HANDLES crates/gup/out/gup crates/gup_orders/out/gup_orders crates/*/{src,specs,proofs} \
+    [[ -x $program && -x $orders && -x $pictures && -r $record ]] || return 1
+    newer=$(cd "$home" && find crates.txt HANDLES crates/gup/out/gup crates/gup_orders/out/gup_orders crates/gup_picture/out/gup_picture \
+        crates/*/{src,specs,proofs} \
         -newercm crates/gup/out/gup.sources -print -quit 2>&1)
     for folder in "$home"/crates "$home"/crates/*/; do
         [[ ! $folder -nt $record ]] || newer=$folder
