@@ -1,5 +1,6 @@
 //! What stands above the rows.
 use crate::operations::push_operation;
+use crate::pen::{Page, page_asked};
 use gup_base::{ActorNo, NoMemory};
 use gup_lines::{name_of, process_name, push_number, push_text};
 use gup_plain::{Note, What};
@@ -20,7 +21,7 @@ pub(crate) fn head(
 ) -> Result<Vec<Vec<u8>>, NoMemory> {
     let mut head = Vec::new(alloc);
     head.push(counts(alloc, script, notes)?)?;
-    if let Some(text) = part_text(alloc, asked, last_turn(notes))? {
+    if let Some(text) = part_text(alloc, script, asked, last_turn(notes))? {
         head.push(text)?;
     }
     head.push(verdict_text(alloc, notes, verdict)?)?;
@@ -90,8 +91,13 @@ fn last_turn(notes: &[Note]) -> u32 {
     }
 }
 
-// `shown: turns 9 to 15, page p.5`.
-fn part_text(alloc: Global, asked: &Asked, turns: u32) -> Result<Option<Vec<u8>>, NoMemory> {
+// `shown: turns 9 to 15, page p.5`; of a process that isn't declared, that there is none.
+fn part_text(
+    alloc: Global,
+    script: &Script,
+    asked: &Asked,
+    turns: u32,
+) -> Result<Option<Vec<u8>>, NoMemory> {
     let mut text = Vec::new(alloc);
     if asked.from > 1 || asked.to < turns {
         push_text(&mut text, "shown: turns ")?;
@@ -106,6 +112,9 @@ fn part_text(alloc: Global, asked: &Asked, turns: u32) -> Result<Option<Vec<u8>>
         push_text(&mut text, page.process.as_str())?;
         push_text(&mut text, ".")?;
         push_number(&mut text, page.page.get())?;
+    }
+    if matches!(page_asked(script, &asked.page), Page::Unknown) {
+        push_text(&mut text, ", but there is no such process")?;
     }
     if text.is_empty() {
         return Ok(None);

@@ -171,7 +171,8 @@ fn is_asked(asked: &Asked, notes: &[Note]) -> bool {
     }
 }
 
-fn page_asked(script: &Script, page: &Option<AskedPage>) -> Page {
+/// The page that is asked for, with its process as the script has it.
+pub(crate) fn page_asked(script: &Script, page: &Option<AskedPage>) -> Page {
     let Some(asked) = page else {
         return Page::Any;
     };

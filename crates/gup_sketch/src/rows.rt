@@ -17,7 +17,8 @@ pub(crate) struct Around<'v> {
     pub(crate) parts: bool,
 }
 
-/// Puts in the row of these notes, if it concerns the page that is asked for. The first row of a window shows each frame that has a reference. `wrong` is how many of them stand before the one that can't be.
+/// Puts in the row of these notes, if it concerns the page that is asked for. Where each frame is asked for, and in the first row of a
+/// window, each is shown that has a reference. `wrong` is how many of the notes stand before the one that can't be.
 pub(crate) fn push_row(
     alloc: Global,
     script: &Script,
@@ -31,13 +32,17 @@ pub(crate) fn push_row(
     let (Some(first), Some(last)) = (notes.first(), notes.last()) else {
         return Ok(());
     };
-    let mut said = Vec::new(alloc);
-    push_said(alloc, script, notes, wrong, around, &mut said)?;
-    let all = asked.frames || (rows.is_empty() && asked.from > 1);
-    let state = state_lines(alloc, script, all, page, around)?;
-    if !concerns(page, notes, state.as_slice()) {
+    let changed = state_lines(alloc, script, false, page, around)?;
+    if !concerns(page, notes, changed.as_slice()) {
         return Ok(());
     }
+    let state = if asked.frames || (rows.is_empty() && asked.from > 1) {
+        state_lines(alloc, script, true, page, around)?
+    } else {
+        changed
+    };
+    let mut said = Vec::new(alloc);
+    push_said(alloc, script, notes, wrong, around, &mut said)?;
     rows.push(Row {
         first: first.turn(),
         last: last.turn(),
