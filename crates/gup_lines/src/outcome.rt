@@ -1,7 +1,9 @@
 //! The answers of a run.
-ghost use Rattle.std.specs.Prelude.{◌≡◌};
+ghost use Rattle.std.specs.Prelude.{◌≡◌, OnOk, OnErr};
+ghost use Rattle.std.specs.List.Sorted.{IsNonDecreasingBy, IsStableByKey};
+ghost use Rattle.std.specs.Ordering.{nat_cmp};
 
-use gup_base::{ActorNo, Words};
+use gup_base::{ActorNo, NoMemory, Words};
 use gup_plain::Answer;
 use std::marker::Model;
 
@@ -40,5 +42,15 @@ impl Outcomes {
         ensures { result.now ≡ self.now }
     {
         self.outcomes.as_slice()
+    }
+
+    /// Sorts the answers by actor; those of one actor stay in their order. If allocation fails all stay where they were.
+    pub fn sort_by_actor(&mut self) -> Result<(), NoMemory>
+        ensures sorted { OnOk result (IsNonDecreasingBy (λ outcome. outcome.actor) self.new) }
+        ensures stable { IsStableByKey (λ outcome. outcome.actor) nat_cmp self.old self.new }
+        ensures err { OnErr result (self.new ≡ self.old) }
+    {
+        self.outcomes.sort_by_key(|outcome| outcome.actor.get())?;
+        Ok(())
     }
 }

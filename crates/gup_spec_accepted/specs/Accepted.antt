@@ -1,4 +1,5 @@
--- Notes are accepted for a script where they can be the beginning of a journal of it, in whatever order its actors take turns.
+-- Notes are accepted for a script where, by the plain model, they can be the beginning of a journal of it, in whatever order its
+-- actors take turns.
 use Rattle.std.specs.Prelude.{List}
 use Rattle.gup_plain.specs.Note.{NoteValue}
 use Rattle.gup_script.specs.Script.{ScriptValue}
