@@ -1,5 +1,5 @@
 -- Which words are which command.
-use Rattle.std.proofs.Common.{◌≡◌, ℕ, ◌<◌, ◌≤◌, true, List, [], ◌∷◌, Some, None, map, length, get_or, refl, sym, ap, ap₂, subst, ◌∙◌, arith, inl, inr}
+use Rattle.std.proofs.Common.{◌≡◌, ◌⊎◌, ℕ, ◌<◌, ◌≤◌, true, List, [], ◌∷◌, Some, None, map, length, get_or, refl, sym, ap, ap₂, subst, ◌∙◌, arith, inl, inr}
 use Rattle.std.specs.Prelude.{codes, decimal}
 use Rattle.std.specs.Str.{bytes_eq}
 use Rattle.std.proofs.lemmas.Slice.Eq.{bytes_eq-Decides}
@@ -8,7 +8,7 @@ use Rattle.gup_read_words.specs.Text.{number_in}
 use Rattle.gup_read_words.proofs.SpelledNumbers.{number_found, decimal_read}
 use Rattle.gup.specs.Report.{IsToldIn, RunsScript, IsChecked, IsMake, IsCommand, IsAsked}
 use Rattle.gup.specs.declared.command.Command.{Command}
-use Rattle.gup.specs.declared.command.Command.TheVariants.{Run, Check}
+use Rattle.gup.specs.declared.command.Command.TheVariants.{Run, Check, Make}
 use Rattle.gup.specs.declared.command.Format.{Format}
 use Rattle.gup.specs.declared.command.Format.TheVariants.{Answers, Trace}
 
@@ -63,9 +63,6 @@ pub runs_told : (words : List (List ℕ)) (format : Format) → IsToldIn words f
 runs_told words Answers told = inl told
 runs_told words Trace told = inr told
 
-pub not_told : (words : List (List ℕ)) (format : Format) (n : ℕ) → IsToldIn words format → IsMake words n → ⊥
-not_told words format n told made = not_both words n (runs_told words format told) made
-
 -- and of one only
 pub one_format : (words : List (List ℕ)) (f g : Format) → IsToldIn words f → IsToldIn words g → f ≡ g
 one_format words Answers Answers here there = refl
@@ -79,10 +76,6 @@ one_number words n m here there =
     let same : decimal n ≡ decimal m = cc in
     decimal_injective n m here.1 there.1 same
 
--- the format that the words ask for is the one that was read
-pub asked_format : (words : List (List ℕ)) (command : Command) (f g : Format) → command ≡ Run f → IsAsked words command → IsToldIn words g → f ≡ g
-asked_format words command f g is asked told = one_format words f g (subst (IsAsked words) is asked) told
-
 -- `check` is no other command
 pub checked_not_run : (words : List (List ℕ)) → IsChecked words → RunsScript words → ⊥
 checked_not_run words checked (inl run) = let e : codes "check" ∷ [] ≡ codes "run" ∷ [] = sym checked ∙ run in absurd (cc)
@@ -90,8 +83,23 @@ checked_not_run words checked (inr traced) =
     let first : 99 ≡ 116 = ap (λ (w : List (List ℕ)). get_or (get_or w 0 []) 0 0) (sym checked ∙ traced) in
     omega (arith, first)
 
+pub checked_not_made : (words : List (List ℕ)) (n : ℕ) → IsChecked words → IsMake words n → ⊥
+checked_not_made words n checked made = let e = sym checked ∙ made.0 in absurd (cc)
+
+-- what the words ask for is the command that was read
+
+pub asked_told : (words : List (List ℕ)) (command : Command) (format : Format) → command ≡ Run format → IsAsked words command → IsToldIn words format
+asked_told words command format is asked = subst (IsAsked words) is asked
+
 pub asked_check : (words : List (List ℕ)) (command : Command) → command ≡ Check → IsAsked words command → IsChecked words
 asked_check words command is asked = subst (IsAsked words) is asked
 
-pub asked_run : (words : List (List ℕ)) (command : Command) (format : Format) → command ≡ Run format → IsAsked words command → RunsScript words
-asked_run words command format is asked = runs_told words format (subst (IsAsked words) is asked)
+pub asked_make : (words : List (List ℕ)) (command : Command) (n : ℕ) → command ≡ Make n → IsAsked words command → IsMake words n
+asked_make words command n is asked = subst (IsAsked words) is asked
+
+-- who is asked to read the source isn't asked to leave it
+pub reads_source : (words : List (List ℕ)) → RunsScript words ⊎ IsChecked words → (IsCommand words → ⊥) ⊎ ((n : ℕ) × IsMake words n) → ⊥
+reads_source words (inl runs) (inl none) = none (inl runs)
+reads_source words (inl runs) (inr made) = not_both words made.0 runs made.1
+reads_source words (inr checked) (inl none) = none (inr (inl checked))
+reads_source words (inr checked) (inr made) = checked_not_made words made.0 checked made.1

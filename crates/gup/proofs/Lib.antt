@@ -2,3 +2,4 @@ pub mod Causes
 pub mod RunEnd
 pub mod Commands
 mod Told
+mod Reports

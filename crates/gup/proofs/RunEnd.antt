@@ -1,5 +1,6 @@
 -- The end of a run: who waits, and the lines of those.
 use Rattle.std.proofs.Common.{◌≡◌, ℕ, ◌<◌, ◌≤◌, Bool, true, false, List, [], ◌∷◌, ◌++◌, Option, Some, None, slice_get, length, inl, inr, refl, sym, ap, subst, ◌∙◌, zero, suc, arith, append-nil}
+use Rattle.std.specs.Prelude.{◌==◌}
 use Rattle.std.proofs.lemmas.Bool.{leb-true, leb-false}
 use Rattle.std.proofs.lemmas.Option.{slice_get_past}
 use Rattle.gup_plain.specs.Note.{NoteValue}
@@ -67,9 +68,11 @@ finished_text script notes end finished =
 abbrev pub IsWrittenRun : Format → (bytes : List ℕ) → ScriptValue → List NoteValue → (stuck : Bool) → (List ℕ → Type 0) → Type 0
 IsWrittenRun format bytes script notes stuck IsWritten = (text : List ℕ) × IsToldRun format bytes script stuck notes text × IsWritten text
 
-pub ran : (format : Format) (bytes : List ℕ) (script : ScriptValue) (notes : List NoteValue) (status : ℕ) (IsWritten : List ℕ → Type 0) (P : Type 0) → (status ≡ 0 → IsWrittenRun format bytes script notes false IsWritten) → (status ≡ 4 → IsWrittenRun format bytes script notes true IsWritten) → ((stuck : Bool) (end : RunState) → IsRunOf script stuck notes end → P) → HasRun status → P
-ran format bytes script notes status IsWritten P finished stuck each (inl zero_is) = let told = finished zero_is in each false told.1.0 told.1.1
-ran format bytes script notes status IsWritten P finished stuck each (inr four_is) = let told = stuck four_is in each true told.1.0 told.1.1
+pub has_run : (format : Format) (bytes : List ℕ) (script : ScriptValue) (notes : List NoteValue) (status : ℕ) (IsWritten : List ℕ → Type 0) → (status ≡ 0 → IsWrittenRun format bytes script notes false IsWritten) → (status ≡ 4 → IsWrittenRun format bytes script notes true IsWritten) → HasRun status → (end : RunState) × IsRunOf script (status == 4) notes end
+has_run format bytes script notes status IsWritten finished stuck (inl zero_is) =
+    let told = finished zero_is in (told.1.0, subst (λ (s : ℕ). IsRunOf script (s == 4) notes told.1.0) (sym zero_is) told.1.1)
+has_run format bytes script notes status IsWritten finished stuck (inr four_is) =
+    let told = stuck four_is in (told.1.0, subst (λ (s : ℕ). IsRunOf script (s == 4) notes told.1.0) (sym four_is) told.1.1)
 
 pub finished_written : (format : Format) (bytes : List ℕ) (script : ScriptValue) (notes : List NoteValue) (IsWritten : List ℕ → Type 0) → format ≡ Answers → IsWrittenRun format bytes script notes false IsWritten → IsWritten (text_of script notes)
 finished_written format bytes script notes IsWritten is told = subst IsWritten (told.1.2 ∙ ap (λ (f : Format). text_in f bytes script notes told.1.0) is ∙ finished_text script notes told.1.0 told.1.1.ends) told.2
@@ -77,10 +80,10 @@ finished_written format bytes script notes IsWritten is told = subst IsWritten (
 pub stuck_written : (format : Format) (bytes : List ℕ) (script : ScriptValue) (notes : List NoteValue) (IsWritten : List ℕ → Type 0) → format ≡ Answers → IsWrittenRun format bytes script notes true IsWritten → (end : RunState) × IsCoreRun script notes end × IsWritten (run_text script notes end)
 stuck_written format bytes script notes IsWritten is told = (told.1.0, told.1.1.core, subst IsWritten (told.1.2 ∙ ap (λ (f : Format). text_in f bytes script notes told.1.0) is) told.2)
 
-pub finished_run : (format : Format) (bytes : List ℕ) (script : ScriptValue) (notes : List NoteValue) (IsWritten : List ℕ → Type 0) → IsWrittenRun format bytes script notes false IsWritten → IsFinishedRun script notes
+finished_run : (format : Format) (bytes : List ℕ) (script : ScriptValue) (notes : List NoteValue) (IsWritten : List ℕ → Type 0) → IsWrittenRun format bytes script notes false IsWritten → IsFinishedRun script notes
 finished_run format bytes script notes IsWritten told = (told.1.0, told.1.1.core, told.1.1.ends)
 
-pub stuck_run : (format : Format) (bytes : List ℕ) (script : ScriptValue) (notes : List NoteValue) (IsWritten : List ℕ → Type 0) → IsWrittenRun format bytes script notes true IsWritten → IsStuckRun script notes
+stuck_run : (format : Format) (bytes : List ℕ) (script : ScriptValue) (notes : List NoteValue) (IsWritten : List ℕ → Type 0) → IsWrittenRun format bytes script notes true IsWritten → IsStuckRun script notes
 stuck_run format bytes script notes IsWritten told = (told.1.0, told.1.1.core, told.1.1.ends, told.1.1.waits)
 
 -- the trace of a run that was written

@@ -1,3 +1,4 @@
 pub mod Cause
 pub mod Stuck
 pub mod Report
+pub mod Serial

@@ -162,12 +162,12 @@ fn expect_accepted(rt: &impl Abort, alloc: Global, script: &str, status: u8) -> 
     let words = owned(alloc, &["trace"])?;
     let mut source = SureSource::new(script.as_bytes().to_vec(alloc)?);
     let mut sink = MemSink::with_room(alloc, 1_000_000, Vec::new(alloc))?;
-    let report = gup(alloc, words.as_slice(), &mut source, &mut sink);
+    let report = gup_serial(alloc, words.as_slice(), &mut source, &mut sink);
     assert_eq!(rt; report.status, status, "{script}");
     let words = owned(alloc, &["check"])?;
     let mut source = SureSource::new(sink.bytes().to_vec(alloc)?);
     let mut sink = MemSink::with_room(alloc, 99, Vec::new(alloc))?;
-    let report = gup(alloc, words.as_slice(), &mut source, &mut sink);
+    let report = gup_serial(alloc, words.as_slice(), &mut source, &mut sink);
     assert_eq!(rt; report.status, 0, "{script}");
     let verdict = if status == 0 { "yes\n" } else { "open\n" };
     assert_eq!(rt; sink.bytes(), verdict.as_bytes(), "{script}");
@@ -217,7 +217,7 @@ fn checks_and_faults(rt: HostRuntime) -> Result<(), Fail> {
         let reads = [read].to_vec(rt.alloc())?;
         let mut source = MemSource::new(trace.as_bytes().to_vec(rt.alloc())?, reads);
         let mut sink = MemSink::with_room(rt.alloc(), room, Vec::new(rt.alloc()))?;
-        let report = gup(rt.alloc(), words.as_slice(), &mut source, &mut sink);
+        let report = gup_serial(rt.alloc(), words.as_slice(), &mut source, &mut sink);
         assert_eq!(rt; report.status, status);
         assert_eq!(rt; sink.bytes(), text.as_bytes());
     }

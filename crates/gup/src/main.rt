@@ -7,16 +7,16 @@ ghost use Rattle.std.specs.Process.{exit_status};
 #[cfg(test)]
 mod checks;
 mod command;
+mod serial;
 #[cfg(test)]
 mod tests;
 mod text;
-mod top;
 
 use gup_io::{FromStd, ToStd};
+use serial::{Report, gup_serial};
 use std::env::Env;
 use std::process::ExitCode;
 use std::{env, io};
-use top::{Report, gup};
 
 /// The words after the program's name. Where one of them isn't UTF-8 they are no command, as where there are none.
 fn words(rt: &(impl Env + AllocGlobal)) -> io::Result<Vec<String>> {
@@ -46,6 +46,6 @@ fn main(rt: HostRuntime) -> ExitCode {
     };
     let mut source = FromStd::new(rt.stdin());
     let mut sink = ToStd::new(rt.stdout());
-    let report = gup(rt.alloc(), words.as_slice(), &mut source, &mut sink);
+    let report = gup_serial(rt.alloc(), words.as_slice(), &mut source, &mut sink);
     exit_code(&report)
 }

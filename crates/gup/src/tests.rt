@@ -1,7 +1,7 @@
 ghost use Rattle.std.specs.Prelude.{None};
 
 use super::*;
-use crate::top::Report;
+use crate::serial::Report;
 use gup_io::{Failed, MemSink, MemSource, Sink, Source, SureSource};
 use gup_spec_grammar::{Reason, ScriptFault};
 use gup_test_cases::{EXAMPLES, RUNS};
@@ -178,7 +178,7 @@ pub(crate) fn expect(
     let words = owned(alloc, words)?;
     let mut source = SureSource::new(script.as_bytes().to_vec(alloc)?);
     let mut sink = MemSink::with_room(alloc, 20_000, Vec::new(alloc))?;
-    let report = gup(alloc, words.as_slice(), &mut source, &mut sink);
+    let report = gup_serial(alloc, words.as_slice(), &mut source, &mut sink);
     assert_eq!(rt; report.status, status, "{script}");
     assert_eq!(rt; sink.bytes(), text.as_bytes(), "{script}");
     Ok(report)
@@ -279,7 +279,7 @@ fn made_scripts_and_faults(rt: HostRuntime) -> Result<(), Fail> {
         let reads = [1].to_vec(rt.alloc())?;
         let mut source = MemSource::new(FIRST.as_bytes().to_vec(rt.alloc())?, reads);
         let mut sink = MemSink::with_room(rt.alloc(), room, Vec::new(rt.alloc()))?;
-        let report = gup(rt.alloc(), words.as_slice(), &mut source, &mut sink);
+        let report = gup_serial(rt.alloc(), words.as_slice(), &mut source, &mut sink);
         assert_eq!(rt; report.status, status);
         assert_eq!(rt; sink.bytes(), text.as_bytes());
     }
@@ -328,7 +328,7 @@ fn faults_in_memory(rt: HostRuntime) -> Result<(), Fail> {
         let writes = [write].to_vec(rt.alloc())?;
         let mut source = MemSource::new(FIRST.as_bytes().to_vec(rt.alloc())?, reads);
         let mut sink = MemSink::with_room(rt.alloc(), room, writes)?;
-        let report = gup(rt.alloc(), words.as_slice(), &mut source, &mut sink);
+        let report = gup_serial(rt.alloc(), words.as_slice(), &mut source, &mut sink);
         assert_eq!(rt; report.status, status, "{read} {write} {room}");
         assert_eq!(rt; sink.bytes(), text.as_bytes(), "{read} {write} {room}");
         assert_eq!(rt; report.refusal, None);
@@ -361,7 +361,7 @@ fn expect_faults(
         faults: 0,
         faulted: false,
     };
-    let report = gup(alloc, words.as_slice(), &mut source, &mut sink);
+    let report = gup_serial(alloc, words.as_slice(), &mut source, &mut sink);
     assert_eq!(rt; report.status, status, "read {read}, write {write}");
     assert_eq!(rt; sink.bytes.as_slice(), text, "read {read}, write {write}");
     Ok(())
@@ -388,7 +388,7 @@ fn a_stuck_run_that_is_not_written(rt: HostRuntime) -> Result<(), Fail> {
     let stuck = "gup 1\nframes 8 8 64\nchild c\nthread u c\non u exit\n";
     let mut source = SureSource::new(stuck.as_bytes().to_vec(rt.alloc())?);
     let mut sink = MemSink::with_room(rt.alloc(), 5, Vec::new(rt.alloc()))?;
-    let report = gup(rt.alloc(), words.as_slice(), &mut source, &mut sink);
+    let report = gup_serial(rt.alloc(), words.as_slice(), &mut source, &mut sink);
     assert_eq!(rt; report.status, 6);
     assert_eq!(rt; sink.bytes(), "stuck".as_bytes());
     Ok(())

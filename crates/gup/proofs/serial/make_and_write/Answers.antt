@@ -1,5 +1,5 @@
 use Rattle.std.proofs.Common.{rules}
-use Rattle.gup.proofs.top.make_and_write.Goals as goal
+use Rattle.gup.proofs.serial.make_and_write.Goals as goal
 
 -- what was told is of that run, and a part of it was taken
 pub returns-clause-part : goal.returns-clause-part

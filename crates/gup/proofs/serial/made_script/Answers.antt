@@ -2,7 +2,7 @@ use Rattle.std.proofs.Common.{ℕ, List, sym, subst}
 use Rattle.gup_spec_grammar.specs.declared.fault.ReadRefusal.{ReadRefusal}
 use Rattle.gup_spec_grammar.specs.Fault.{HasFault, IsRefusalOf}
 use Rattle.gup_spec_grammar.specs.Grammar.{Accepts}
-use Rattle.gup.proofs.top.made_script.Goals as goal
+use Rattle.gup.proofs.serial.made_script.Goals as goal
 
 -- the text that is made is a script's, and no such text has a fault
 pub unreachable-requires : goal.unreachable-requires

@@ -4,7 +4,7 @@ use Rattle.gup_plain.specs.Note.{NoteValue}
 use Rattle.gup_script.specs.Script.{ScriptValue}
 use Rattle.gup_spec_trace.specs.Note.{note_line}
 use Rattle.gup_spec_trace.specs.Trace.{journal_line}
-use Rattle.gup.proofs.top.tell_trace.Goals as goal
+use Rattle.gup.proofs.serial.tell_trace.Goals as goal
 
 pub returns-clause-told : goal.returns-clause-told
 returns-clause-told c =

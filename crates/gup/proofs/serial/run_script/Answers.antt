@@ -12,7 +12,7 @@ use Rattle.gup_sched.specs.declared.run.Run.{Run}
 use Rattle.gup.specs.Report.{IsEndOfRun}
 use Rattle.gup.proofs.Causes.{AreExact, caused, outcomes_answered}
 use Rattle.gup.proofs.RunEnd.{all_wait}
-use Rattle.gup.proofs.top.run_script.Goals as goal
+use Rattle.gup.proofs.serial.run_script.Goals as goal
 
 ok_more : {X E : Type 0} (P Q : X → Type 0) (r : Result X E) → ((x : X) → P x → Q x) → IfOk r P → IfOk r Q
 ok_more P Q (Ok x) more p = more x p
