@@ -17,7 +17,7 @@ use Rattle.gup_plain.specs.Denial.{is_denial}
 use Rattle.gup_spec_journal.specs.Denial.{References, denial}
 use Rattle.gup_spec_journal.specs.Plain.{Judged, judged_by, judged_before, got_at, refusal_in, IsAnswerAfter, IsRightAt, AreSo}
 use Rattle.gup_spec_turns.specs.Cause.{CoreCause, LacksFrame, LacksExactly, UntouchedExactly, BusyExactly, UnmovableExactly, StaleExactly, RefusesUnmovable, answers_in, answered_in}
-use Rattle.gup_spec_turns.specs.Run.{RunState, Runs, run_start, run_after, turned, turn_in}
+use Rattle.gup_spec_turns.specs.Run.{RunState, AreTurns, run_start, run_after, turned, turn_in}
 use Rattle.gup_core.specs.Machine.{IsReached}
 use Rattle.gup_core.proofs.Resting.{reached_behind}
 use Rattle.gup_script.specs.Valid.{IsScript}
@@ -192,11 +192,11 @@ exact_at exact script r a valid reached = (
 )
 
 -- in a plain journal, whose turns refuse so only for these causes, each refusal has its cause
-pub caused : AreExact → (script : ScriptValue) → IsScript script → (j : Judged) (number : ℕ) (places : ℕ → Place) (turns : List Turn) (r end : RunState) → IsReached script r → Runs script r turns end → AreSo IsRightAt script j (journal_of number places turns) → AreCaused script r j turns
+pub caused : AreExact → (script : ScriptValue) → IsScript script → (j : Judged) (number : ℕ) (places : ℕ → Place) (turns : List Turn) (r end : RunState) → IsReached script r → AreTurns script r turns end → AreSo IsRightAt script j (journal_of number places turns) → AreCaused script r j turns
 caused exact script valid j number places [] r end reached run plain = tt
 caused exact script valid j number places (turn ∷ turns) r end reached run plain =
     let a : ℕ = turn.actor in
-    let here : IsExact script r turn = subst (λ (t : Turn). IsExact script r (record { actor = a; whats = t.whats })) (sym run.1) (exact_at exact script r a valid reached) in
+    let here : IsExact script r turn = subst (λ (t : Turn). IsExact script r (record { actor = a; whats = t.whats })) (sym run.0) (exact_at exact script r a valid reached) in
     let core : HasCore (CoreCause script r a) turn.whats =
     record {
       lacks = here.0.0;
@@ -207,7 +207,7 @@ caused exact script valid j number places (turn ∷ turns) r end reached run pla
     } in
     let rest : List NoteValue = journal_of (number + 1) (places_behind places turn) turns in
     let now = caused_turn (CoreCause script r a) script j number a ((places a).answered + 1) turn.whats rest core plain in
-    let later = caused exact script valid (judged_turn script j a turn.whats) (number + 1) (places_behind places turn) turns (run_after script r a) end (reached_behind script r a reached) run.2 now.1 in
+    let later = caused exact script valid (judged_turn script j a turn.whats) (number + 1) (places_behind places turn) turns (run_after script r a) end (reached_behind script r a reached) run.1 now.1 in
     (now.0, here, later)
 
 -- as many outcomes as answers, whatever words were moved before

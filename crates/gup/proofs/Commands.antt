@@ -6,7 +6,7 @@ use Rattle.std.proofs.lemmas.Slice.Eq.{bytes_eq-Decides}
 use Rattle.std.proofs.lemmas.Fmt.{decimal_injective}
 use Rattle.gup_read_words.specs.Text.{number_in}
 use Rattle.gup_read_words.proofs.SpelledNumbers.{number_found, decimal_read}
-use Rattle.gup.specs.Report.{IsToldIn, RunsScript, IsChecked, IsMake, IsCommand, IsAsked}
+use Rattle.gup.specs.Report.{IsToldIn, RunsScript, IsChecked, IsMake, IsSerial, IsLiveIn, RunsLive, IsCommand, IsAsked}
 use Rattle.gup.specs.declared.command.Command.{Command}
 use Rattle.gup.specs.declared.command.Command.TheVariants.{Run, Check, Make}
 use Rattle.gup.specs.declared.command.Format.{Format}
@@ -30,7 +30,7 @@ pub asked_words : (words : List (List ℕ)) (word : List ℕ) (command : Command
 asked_words words word command are asked = subst (λ (w : List (List ℕ)). IsAsked w command) (sym are) asked
 
 -- or for nothing
-pub one_no_command : (words : List (List ℕ)) (word : List ℕ) → words ≡ word ∷ [] → (RunsScript (word ∷ []) → ⊥) → (IsChecked (word ∷ []) → ⊥) → IsCommand words → ⊥
+pub one_no_command : (words : List (List ℕ)) (word : List ℕ) → words ≡ word ∷ [] → (RunsScript (word ∷ []) → ⊥) → (IsChecked (word ∷ []) → ⊥) → IsSerial words → ⊥
 one_no_command words word are none unchecked (inl run) = none (subst RunsScript are run)
 one_no_command words word are none unchecked (inr (inl checked)) = unchecked (subst IsChecked are checked)
 one_no_command words word are none unchecked (inr (inr made)) = let e = sym are ∙ made.1.0 in absurd (cc)
@@ -42,7 +42,7 @@ make_words words word count n are same read =
     (are ∙ ap₂ (λ w k. w ∷ k ∷ []) ((bytes_eq-Decides word (codes "make")).0 same) found.0, found.1)
 
 -- where no number was read, they are none
-pub no_number : (words : List (List ℕ)) (word count : List ℕ) → words ≡ word ∷ count ∷ [] → number_in count ≡ None → IsCommand words → ⊥
+pub no_number : (words : List (List ℕ)) (word count : List ℕ) → words ≡ word ∷ count ∷ [] → number_in count ≡ None → IsSerial words → ⊥
 no_number words word count are unread (inl (inl run)) = let e = sym are ∙ run in absurd (cc)
 no_number words word count are unread (inl (inr traced)) = let e = sym are ∙ traced in absurd (cc)
 no_number words word count are unread (inr (inl checked)) = let e = sym are ∙ checked in absurd (cc)
@@ -99,7 +99,51 @@ asked_make words command n is asked = subst (IsAsked words) is asked
 
 -- who is asked to read the source isn't asked to leave it
 pub reads_source : (words : List (List ℕ)) → RunsScript words ⊎ IsChecked words → (IsCommand words → ⊥) ⊎ ((n : ℕ) × IsMake words n) → ⊥
-reads_source words (inl runs) (inl none) = none (inl runs)
+reads_source words (inl runs) (inl none) = none (inl (inl runs))
 reads_source words (inl runs) (inr made) = not_both words made.0 runs made.1
-reads_source words (inr checked) (inl none) = none (inr (inl checked))
+reads_source words (inr checked) (inl none) = none (inl (inr (inl checked)))
 reads_source words (inr checked) (inr made) = checked_not_made words made.0 checked made.1
+
+-- `live` is no other command
+
+pub live_not_run : (words : List (List ℕ)) → RunsLive words → RunsScript words → ⊥
+live_not_run words (inl live) (inl run) = let e : codes "live" ∷ [] ≡ codes "run" ∷ [] = sym live ∙ run in absurd (cc)
+live_not_run words (inl live) (inr traced) =
+    let first : 108 ≡ 116 = ap (λ (w : List (List ℕ)). get_or (get_or w 0 []) 0 0) (sym live ∙ traced) in
+    omega (arith, first)
+live_not_run words (inr live) (inl run) = let e = sym live ∙ run in absurd (cc)
+live_not_run words (inr live) (inr traced) = let e = sym live ∙ traced in absurd (cc)
+
+pub live_not_checked : (words : List (List ℕ)) → RunsLive words → IsChecked words → ⊥
+live_not_checked words (inl live) checked =
+    let first : 108 ≡ 99 = ap (λ (w : List (List ℕ)). get_or (get_or w 0 []) 0 0) (sym live ∙ checked) in
+    omega (arith, first)
+live_not_checked words (inr live) checked = let e = sym live ∙ checked in absurd (cc)
+
+pub live_not_made : (words : List (List ℕ)) (n : ℕ) → RunsLive words → IsMake words n → ⊥
+live_not_made words n (inl live) made = let e = sym live ∙ made.0 in absurd (cc)
+live_not_made words n (inr live) made =
+    let first : 108 ≡ 109 = ap (λ (w : List (List ℕ)). get_or (get_or w 0 []) 0 0) (sym live ∙ made.0) in
+    omega (arith, first)
+
+-- a format is of `live`, and of one command of its two only
+
+pub lives_in : (words : List (List ℕ)) (format : Format) → IsLiveIn words format → RunsLive words
+lives_in words Answers live = inl live
+lives_in words Trace live = inr live
+
+pub one_live_format : (words : List (List ℕ)) (f g : Format) → IsLiveIn words f → IsLiveIn words g → f ≡ g
+one_live_format words Answers Answers here there = refl
+one_live_format words Trace Trace here there = refl
+one_live_format words Answers Trace here there = let e = sym here ∙ there in absurd (cc)
+one_live_format words Trace Answers here there = let e = sym here ∙ there in absurd (cc)
+
+-- words that are neither are none
+pub none_at_all : (words : List (List ℕ)) → (IsSerial words → ⊥) → (RunsLive words → ⊥) → IsCommand words → ⊥
+none_at_all words serial live (inl asked) = serial asked
+none_at_all words serial live (inr asked) = live asked
+
+-- who runs so reads the source
+pub live_reads : (words : List (List ℕ)) → RunsLive words → (IsCommand words → ⊥) ⊎ ((n : ℕ) × IsMake words n) → ⊥
+live_reads words live (inl none) = none (inr live)
+live_reads words live (inr made) = live_not_made words made.0 live made.1

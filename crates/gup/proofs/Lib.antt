@@ -3,3 +3,5 @@ pub mod RunEnd
 pub mod Commands
 mod Told
 mod Reports
+mod LiveRuns
+mod LiveReports

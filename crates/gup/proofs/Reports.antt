@@ -18,27 +18,27 @@ use Rattle.gup_front.specs.Lines.{refusal_text}
 use Rattle.gup_front.specs.Reading.{OfScript, OfText, IsScriptOf, IsRefusedFor, IsReadThrough}
 use Rattle.gup_front.proofs.ReadBytes.{has_cause, of_script, are_script, of_none}
 use Rattle.gup_check_front.specs.Judged.{HasJudged, IsCheckStatus}
-use Rattle.gup.specs.Report.{RunsScript, IsChecked, IsMake, IsCommand, IsToldIn, HasRun, IsStatus, IsMadeStatus, IsRunOf, IsMadeRun, IsPartlyTold, IsEnd, usage}
-use Rattle.gup.specs.Serial.{Outside, Takes, TakesPart, IsWell, IsRunReport, IsCheckReport, IsMakeReport, IsUsageReport, AreFaultsTold, IsRefusalTold, IsReport}
+use Rattle.gup.specs.Report.{RunsScript, IsChecked, IsMake, RunsLive, IsCommand, IsToldIn, HasRun, IsStatus, IsMadeStatus, IsRunOf, IsMadeRun, IsPartlyTold, IsEnd, usage}
+use Rattle.gup.specs.Commands.{Outside, Takes, TakesPart, IsWell, IsScriptRead, IsRunReport, IsCheckReport, IsMakeReport, IsUsageReport, AreFaultsTold, IsRefusalTold, IsReport}
 use Rattle.gup.specs.Stuck.{run_text}
 use Rattle.gup.specs.declared.command.Format.{Format}
 use Rattle.gup.specs.declared.command.Format.TheVariants.{Answers, Trace}
 use Rattle.gup.specs.declared.serial.Report.{Report}
-use Rattle.gup.proofs.Commands.{not_both, runs_told, one_format, one_number, checked_not_run, checked_not_made}
+use Rattle.gup.proofs.Commands.{not_both, runs_told, one_format, one_number, checked_not_run, checked_not_made, live_not_run, live_not_checked, live_not_made}
 use Rattle.gup.proofs.RunEnd.{IsWrittenRun, has_run, traced_written, finished_written, stuck_written, ended}
 use Rattle.gup.proofs.Told.{of_text, are_bytes, none_told}
 
-of_any : (told : Option (List ℕ)) (P : ScriptValue → Type 0) → ((script : ScriptValue) → P script) → OfScript told P
+pub of_any : (told : Option (List ℕ)) (P : ScriptValue → Type 0) → ((script : ScriptValue) → P script) → OfScript told P
 of_any None P each = tt
 of_any (Some bytes) P each = λ script spelt. each script
 
-if_none : (refusal : Option ScriptFault) (P : ScriptFault → Type 0) → refusal ≡ None → IfSome refusal P
+pub if_none : (refusal : Option ScriptFault) (P : ScriptFault → Type 0) → refusal ≡ None → IfSome refusal P
 if_none refusal P none = subst (λ (r : Option ScriptFault). IfSome r P) (sym none) tt
 
-if_this : (refusal : Option ScriptFault) (P : ScriptFault → Type 0) (fault : ScriptFault) → refusal ≡ Some fault → P fault → IfSome refusal P
+pub if_this : (refusal : Option ScriptFault) (P : ScriptFault → Type 0) (fault : ScriptFault) → refusal ≡ Some fault → P fault → IfSome refusal P
 if_this refusal P fault is p = subst (λ (r : Option ScriptFault). IfSome r P) (sym is) p
 
-if_any : (refusal : Option ScriptFault) (P : Type 0) → P → IfSome refusal (λ fault. P)
+pub if_any : (refusal : Option ScriptFault) (P : Type 0) → P → IfSome refusal (λ fault. P)
 if_any None P p = tt
 if_any (Some fault) P p = p
 
@@ -55,7 +55,7 @@ abbrev pub IsWritten : Format → (bytes : List ℕ) → ScriptValue → (before
 IsWritten format bytes script before after report stuck =
     IsWrittenRun format bytes script report.journal.notes stuck (Takes before after)
 
-module _ (words : List (List ℕ)) (before after : Outside) (report : Report) where
+module _ (words : List (List ℕ)) (before after : Outside) (report : Report) (unlive : report.live ≡ None) where
   -- ---- by what was asked
 
   of_run : RunsScript words → (report.status ≡ 2 → ⊥) → IsRunReport words before after report
@@ -63,10 +63,12 @@ module _ (words : List (List ℕ)) (before after : Outside) (report : Report) wh
   of_run asked other told faults refusal =
       record {
         runs = λ runs. told;
+        lives = λ live. absurd (live_not_run words live asked);
         checks = λ checked. absurd (checked_not_run words checked asked);
         makes = λ n made. absurd (not_both words n asked made);
-        usage = λ none. absurd (none (inl asked));
+        usage = λ none. absurd (none (inl (inl asked)));
         command = λ two. absurd (other two);
+        live = λ other. unlive;
         faults = faults;
         refusal = refusal;
       }
@@ -76,10 +78,12 @@ module _ (words : List (List ℕ)) (before after : Outside) (report : Report) wh
   of_check asked told faults refusal =
       record {
         runs = λ runs. absurd (checked_not_run words asked runs);
+        lives = λ live. absurd (live_not_checked words live asked);
         checks = λ checked. told;
         makes = λ n made. absurd (checked_not_made words n asked made);
-        usage = λ none. absurd (none (inr (inl asked)));
+        usage = λ none. absurd (none (inl (inr (inl asked))));
         command = λ two. absurd (omega (arith, told.statuses));
+        live = λ other. unlive;
         faults = faults;
         refusal = refusal;
       }
@@ -89,10 +93,12 @@ module _ (words : List (List ℕ)) (before after : Outside) (report : Report) wh
   of_make n asked told faults refusal =
       record {
         runs = λ runs. absurd (not_both words n runs asked);
+        lives = λ live. absurd (live_not_made words n live asked);
         checks = λ checked. absurd (checked_not_made words n checked asked);
         makes = λ m made. subst (λ (k : ℕ). IsMakeReport k before after report) (one_number words n m asked made) told;
-        usage = λ none. absurd (none (inr (inr (n, asked))));
+        usage = λ none. absurd (none (inl (inr (inr (n, asked)))));
         command = λ two. absurd (omega (arith, told.statuses));
+        live = λ other. unlive;
         faults = faults;
         refusal = refusal;
       }
@@ -101,11 +107,13 @@ module _ (words : List (List ℕ)) (before after : Outside) (report : Report) wh
       → AreFaultsTold before after report.status → IsRefusalTold before after report → IsReport words before after report
   of_usage none told faults refusal =
       record {
-        runs = λ runs. absurd (none (inl runs));
-        checks = λ checked. absurd (none (inr (inl checked)));
-        makes = λ n made. absurd (none (inr (inr (n, made))));
+        runs = λ runs. absurd (none (inl (inl runs)));
+        lives = λ live. absurd (none (inr live));
+        checks = λ checked. absurd (none (inl (inr (inl checked))));
+        makes = λ n made. absurd (none (inl (inr (inr (n, made)))));
         usage = λ no_command. told;
         command = λ two. none;
+        live = λ other. unlive;
         faults = faults;
         refusal = refusal;
       }
@@ -189,10 +197,7 @@ module _ (words : List (List ℕ)) (before after : Outside) (report : Report) wh
         read_again = λ asked has. absurd (other has);
         never_wrong = λ has. absurd (other has);
         complete = complete;
-        refused = refused;
-        refusal = refusal;
-        reading = reading;
-        read_through = read_through;
+        read = record { refused = refused; refusal = refusal; reading = reading; read_through = read_through };
         text_part = λ format asked six. none_told before.left (P format) (none six);
         refused_or_ran = λ format asked six. inl (some six);
       }
@@ -320,10 +325,13 @@ module _ (words : List (List ℕ)) (before after : Outside) (report : Report) wh
           read_again = λ told has. of_bytes (λ b s. IsTrace (trace_text b s notes) s notes) (bytes, refl, accepted, writable (same Trace told) has);
           never_wrong = λ has. of_read (λ s. (n : ℕ) → IsFirstWrong s notes n → ⊥) (λ n. right script notes n (ran has).1.accepted);
           complete = λ well. of_read (λ s. IsEnd s report.status notes) (complete statuses write well);
-          refused = λ three. absurd (omega arith);
-          refusal = if_none report.refusal (IsRefusedFor before.left) none;
-          reading = reading;
-          read_through = λ five seven. read_through;
+          read =
+              record {
+                refused = λ three. absurd (omega arith);
+                refusal = if_none report.refusal (IsRefusedFor before.left) none;
+                reading = reading;
+                read_through = λ five seven. read_through;
+              };
           text_part = λ f told six. of_bytes (IsPart f) (in_format f told (part six));
           refused_or_ran = λ f told six. inr (bytes, script, are_bytes before.left bytes spelt, accepted, in_format f told (part six));
         }
@@ -332,14 +340,14 @@ module _ (words : List (List ℕ)) (before after : Outside) (report : Report) wh
         (unrefused none (λ three. omega arith) (λ has. unran (omega arith)))
 
 -- a trace was read, or refused
-pub check_report : (words : List (List ℕ)) (before after : Outside) (report : Report) (status : ℕ) (refusal : Option ScriptFault)
+pub check_report : (words : List (List ℕ)) (before after : Outside) (report : Report) (unlive : report.live ≡ None) (status : ℕ) (refusal : Option ScriptFault)
     → report.status ≡ status → report.refusal ≡ refusal → IsChecked words
     → IsCheckReport before after (record report { status = status; refusal = refusal }) → AreFaultsTold before after status
     → (status ≡ 3 → IsSome refusal) → (status ≡ 3 → IfSome refusal (λ fault. Takes before after (refusal_text fault)))
     → (status ≡ 6 → IfSome refusal (λ fault. TakesPart before after (refusal_text fault)))
     → (HasJudged status ⊎ (status ≡ 5) → refusal ≡ None) → IsReport words before after report
-check_report words before after report status refusal is same asked told faults there text part none =
+check_report words before after report unlive status refusal is same asked told faults there text part none =
     let judged : Report = record report { status = status; refusal = refusal } in
     same_report (IsReport words before after) report status refusal is same
-    (of_check words before after judged asked told faults
-    (check_refused words before after judged told.statuses told.unrun there text part none))
+    (of_check words before after judged unlive asked told faults
+    (check_refused words before after judged unlive told.statuses told.unrun there text part none))

@@ -20,7 +20,7 @@ use Rattle.gup.specs.Stuck.{IsFinishedRun, IsStuckRun, AreWaiting, stuck_lines, 
 
 -- an actor that has finished has no operation left, and one that hasn't has one
 
-op_of_finished : (script : ScriptValue) (end : RunState) (a : ℕ) → has_finished script a (end.places a) ≡ true → op_in script end a ≡ None
+pub op_of_finished : (script : ScriptValue) (end : RunState) (a : ℕ) → has_finished script a (end.places a) ≡ true → op_in script end a ≡ None
 op_of_finished script end a is =
     slice_get_past (ops_of script a) (end.places a).answered (leb-true (length (ops_of script a)) (end.places a).answered is)
 

@@ -1,4 +1,5 @@
 pub mod Cause
 pub mod Stuck
 pub mod Report
-pub mod Serial
+pub mod LiveRun
+pub mod Commands

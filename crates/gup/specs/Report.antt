@@ -53,9 +53,22 @@ IsChecked words = words ≡ codes "check" ∷ []
 abbrev pub IsMake : List (List ℕ) → (n : ℕ) → Type 0
 IsMake words n = (words ≡ codes "make" ∷ decimal n ∷ []) × (n < 2 ^ 64)
 
--- the words are a command: one of the four
+-- a command that needs no threads: one of the four
+abbrev pub IsSerial : List (List ℕ) → Type 0
+IsSerial words = RunsScript words ⊎ IsChecked words ⊎ ((n : ℕ) × IsMake words n)
+
+-- The command `live`: that word alone, and with `trace` behind it where the run is to be told so.
+abbrev pub IsLiveIn : List (List ℕ) → Format → Type 0
+IsLiveIn words Answers = words ≡ codes "live" ∷ []
+IsLiveIn words Trace = words ≡ codes "live" ∷ codes "trace" ∷ []
+
+-- one of these two
+abbrev pub RunsLive : List (List ℕ) → Type 0
+RunsLive words = IsLiveIn words Answers ⊎ IsLiveIn words Trace
+
+-- the words are a command
 abbrev pub IsCommand : List (List ℕ) → Type 0
-IsCommand words = RunsScript words ⊎ IsChecked words ⊎ ((n : ℕ) × IsMake words n)
+IsCommand words = IsSerial words ⊎ RunsLive words
 
 -- the words are those of this command
 abbrev pub IsAsked : List (List ℕ) → Command → Type 0

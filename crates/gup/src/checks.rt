@@ -1,5 +1,5 @@
 //! Tests of the command `check`.
-use super::*;
+use crate::serial::gup_serial;
 use crate::tests::{FIRST, expect, owned};
 use gup_io::{MemSink, MemSource, SureSource};
 use gup_spec_grammar::{Reason, ScriptFault};

@@ -1,6 +1,6 @@
 //! What the words after the program's name ask for.
 ghost use Rattle.std.specs.Prelude.{◌≡◌, ◌↔◌, [], ◌∷◌, IsTrue, IfSome, None, map, string_bytes};
-ghost use Rattle.gup.specs.Report.{RunsScript, IsChecked, IsCommand, IsAsked};
+ghost use Rattle.gup.specs.Report.{RunsScript, IsChecked, IsSerial, IsLiveIn, RunsLive, IsAsked};
 
 use gup_read_words::number;
 
@@ -13,7 +13,7 @@ pub enum Format {
     Trace,
 }
 
-/// A command.
+/// A command that needs no threads.
 #[derive(Clone, Copy, Debug)]
 pub enum Command {
     /// `run` or `trace`: run the script that the source has, and tell the run so.
@@ -24,10 +24,10 @@ pub enum Command {
     Make(u64),
 }
 
-/// The command that the words are, if they are one. A number has no sign and no zero in front, and is below 2^64.
+/// The command without threads that the words are, if they are one. A number has no sign and no zero in front, and is below 2^64.
 pub fn command_of(words: &[String]) -> Option<Command>
     ensures found { IfSome result (IsAsked (map string_bytes words.now)) }
-    ensures none { result ≡ None → IsCommand (map string_bytes words.now) → ⊥ }
+    ensures none { result ≡ None → IsSerial (map string_bytes words.now) → ⊥ }
 {
     match words {
         [word] => one_word(word.as_str()),
@@ -45,6 +45,40 @@ fn one_word(word: &str) -> Option<Command>
         "run" => Some(Command::Run(Format::Answers)),
         "trace" => Some(Command::Run(Format::Trace)),
         "check" => Some(Command::Check),
+        _ => None,
+    }
+}
+
+/// How the run is to be told that is asked for, where the words are `live` or `live trace`.
+pub fn live_format(words: &[String]) -> Option<Format>
+    ensures found { IfSome result (IsLiveIn (map string_bytes words.now)) }
+    ensures none { result ≡ None → RunsLive (map string_bytes words.now) → ⊥ }
+{
+    match words {
+        [word] => live_word(word.as_str()),
+        [word, told] => live_words(word.as_str(), told.as_str()),
+        _ => None,
+    }
+}
+
+// The same of one word.
+fn live_word(word: &str) -> Option<Format>
+    ensures found { IfSome result (IsLiveIn (word.now ∷ [])) }
+    ensures none { result ≡ None → RunsLive (word.now ∷ []) → ⊥ }
+{
+    match word {
+        "live" => Some(Format::Answers),
+        _ => None,
+    }
+}
+
+// The same of two words.
+fn live_words(word: &str, told: &str) -> Option<Format>
+    ensures found { IfSome result (IsLiveIn (word.now ∷ told.now ∷ [])) }
+    ensures none { result ≡ None → RunsLive (word.now ∷ told.now ∷ []) → ⊥ }
+{
+    match (word, told) {
+        ("live", "trace") => Some(Format::Trace),
         _ => None,
     }
 }

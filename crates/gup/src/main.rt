@@ -7,16 +7,21 @@ ghost use Rattle.std.specs.Process.{exit_status};
 #[cfg(test)]
 mod checks;
 mod command;
+mod live;
+#[cfg(test)]
+mod lives;
 mod serial;
 #[cfg(test)]
 mod tests;
 mod text;
+mod top;
 
-use gup_io::{FromStd, ToStd};
-use serial::{Report, gup_serial};
+use gup_io::{FromStd, NoPace, ToStd};
+use serial::Report;
 use std::env::Env;
 use std::process::ExitCode;
 use std::{env, io};
+use top::gup;
 
 /// The words after the program's name. Where one of them isn't UTF-8 they are no command, as where there are none.
 fn words(rt: &(impl Env + AllocGlobal)) -> io::Result<Vec<String>> {
@@ -46,6 +51,13 @@ fn main(rt: HostRuntime) -> ExitCode {
     };
     let mut source = FromStd::new(rt.stdin());
     let mut sink = ToStd::new(rt.stdout());
-    let report = gup_serial(rt.alloc(), words.as_slice(), &mut source, &mut sink);
+    let report = gup(
+        &rt,
+        rt.alloc(),
+        words.as_slice(),
+        &mut source,
+        &mut sink,
+        &NoPace,
+    );
     exit_code(&report)
 }

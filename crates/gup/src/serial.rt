@@ -1,4 +1,4 @@
-//! What the program does, from its words and its bytes to its text.
+//! What the program does without threads, from its words and its bytes to its text.
 ghost use Rattle.std.specs.Prelude.{◌≡◌, ℕ, ◌⊎◌, Bool, List, [], None, Some, IfOk, true, false, if◌then◌else◌, map, string_bytes};
 ghost use Rattle.std.specs.Io.KnownBytes.{Appends};
 ghost use Rattle.std.specs.List.{All};
@@ -9,8 +9,8 @@ ghost use Rattle.gup_spec_grammar.specs.Grammar.{Accepts};
 ghost use Rattle.gup_spec_turns.specs.Run.{RunState};
 ghost use Rattle.gup_spec_trace.specs.Written.{CanBeWritten};
 ghost use Rattle.gup_make.specs.Made.{made_text};
-ghost use Rattle.gup.specs.Report.{IsMake, IsCommand, IsMadeStatus, HasRun, IsEndOfRun, IsToldRun, IsMadeRun, IsPartlyTold, usage};
-ghost use Rattle.gup.specs.Serial.{IsReport, outside};
+ghost use Rattle.gup.specs.Report.{RunsLive, IsMake, IsCommand, IsMadeStatus, HasRun, IsEndOfRun, IsToldRun, IsMadeRun, IsPartlyTold, usage};
+ghost use Rattle.gup.specs.Commands.{IsReport, outside};
 
 use crate::command::{Command, Format, command_of};
 use crate::text::{journal_text, push_stuck_lines};
@@ -28,7 +28,9 @@ use gup_law_journal::{
 use gup_law_made::made_texts_are_scripts;
 use gup_law_mirrors::looks_are_stale_with_cause;
 use gup_law_owners::plain_journals_are_owned;
+use gup_law_turns::runs_are_turns;
 use gup_law_written::journals_can_be_written;
+use gup_live::Live;
 use gup_make::make_text;
 use gup_plain::Journal;
 use gup_read::{one_script, read_script, scripts_have_no_fault};
@@ -39,25 +41,29 @@ use gup_summary::summary_lines;
 use gup_trace::push_journal;
 use std::alloc::Global;
 
-/// What the program did: its exit status, the journal of the run, and the fault of a script that was refused.
+/// What the program did: its exit status, the journal of the run, the fault of a script that was refused, and what actors have
+/// come to on threads of their own.
 #[derive(Debug, Drop)]
 pub struct Report {
     pub status: u8,
     pub journal: Journal,
     pub refusal: Option<ScriptFault>,
+    pub live: Option<Live>,
 }
 
 impl Report {
-    // The report of a run that never began.
-    fn unrun(alloc: Global, status: u8, refusal: Option<ScriptFault>) -> Report
+    /// The report of a run that never began.
+    pub fn unrun(alloc: Global, status: u8, refusal: Option<ScriptFault>) -> Report
         ensures status { result.status ≡ status }
         ensures journal { result.journal.notes ≡ [] }
         ensures refusal { result.refusal ≡ refusal }
+        ensures live { result.live ≡ None }
     {
         Report {
             status,
             journal: Journal::new(alloc),
             refusal,
+            live: None,
         }
     }
 }
@@ -67,6 +73,7 @@ fn run_script(alloc: Global, script: Script) -> Result<Run, NoMemory>
     ensures run { IfOk result (λ ran. (end : RunState) × IsEndOfRun script ran.stuck ran.journal.notes ran.machine end) }
     ensures script { IfOk result (λ ran. ran.machine.script ≡ script) }
 {
+    runs_are_turns();
     core_run_follows();
     core_run_is_in_order();
     core_run_is_plain();
@@ -168,10 +175,11 @@ fn made_script(alloc: Global, n: u64) -> Result<Script, NoMemory>
     }
 }
 
-// Refuses a script: writes its fault.
-fn refuse<K: Sink>(alloc: Global, sink: &mut K, fault: ScriptFault) -> Report
+/// Refuses a script: writes its fault.
+pub fn refuse<K: Sink>(alloc: Global, sink: &mut K, fault: ScriptFault) -> Report
     ensures statuses { (result.status ≡ 3) ⊎ (result.status ≡ 6) ⊎ (result.status ≡ 7) }
     ensures refusal { result.refusal ≡ Some fault }
+    ensures live { result.live ≡ None }
     ensures journal { result.journal.notes ≡ [] }
     ensures text { result.status ≡ 3 → Appends (K.taken sink.old) (K.taken sink.new) (refusal_text fault) }
     ensures part { result.status ≡ 6 → AppendsPart (K.taken sink.old) (K.taken sink.new) (refusal_text fault) }
@@ -195,6 +203,7 @@ fn refuse<K: Sink>(alloc: Global, sink: &mut K, fault: ScriptFault) -> Report
 fn run_and_write<K: Sink>(alloc: Global, sink: &mut K, found: ReadScript, format: Format) -> Report
     ensures statuses { HasRun result.status ⊎ (result.status ≡ 6) ⊎ (result.status ≡ 7) }
     ensures refusal { result.refusal ≡ None }
+    ensures live { result.live ≡ None }
     ensures written { format ≡ Format.Trace → HasRun result.status → All (CanBeWritten found.script) result.journal.notes }
     ensures finished { result.status ≡ 0 → (text : List ℕ) × IsToldRun format found.text.items found.script false result.journal.notes text
         × Appends (K.taken sink.old) (K.taken sink.new) text }
@@ -216,6 +225,7 @@ fn run_and_write<K: Sink>(alloc: Global, sink: &mut K, found: ReadScript, format
         status: status_of(written, told.stuck),
         journal: told.journal,
         refusal: None,
+        live: None,
     }
 }
 
@@ -223,6 +233,7 @@ fn run_and_write<K: Sink>(alloc: Global, sink: &mut K, found: ReadScript, format
 fn make_and_write<K: Sink>(alloc: Global, sink: &mut K, n: u64) -> Report
     ensures statuses { IsMadeStatus result.status }
     ensures refusal { result.refusal ≡ None }
+    ensures live { result.live ≡ None }
     ensures journal { result.journal.notes ≡ [] }
     ensures finished { result.status ≡ 0 → (text : List ℕ) × IsMadeRun n false text
         × Appends (K.taken sink.old) (K.taken sink.new) text }
@@ -257,6 +268,7 @@ fn status_of(written: bool, stuck: bool) -> u8
 fn show_usage<K: Sink>(alloc: Global, sink: &mut K) -> Report
     ensures statuses { (result.status ≡ 2) ⊎ (result.status ≡ 6) }
     ensures refusal { result.refusal ≡ None }
+    ensures live { result.live ≡ None }
     ensures journal { result.journal.notes ≡ [] }
     ensures text { result.status ≡ 2 → Appends (K.taken sink.old) (K.taken sink.new) usage }
     ensures part { result.status ≡ 6 → AppendsPart (K.taken sink.old) (K.taken sink.new) usage }
@@ -288,6 +300,8 @@ pub fn gup_serial<S: Source, K: Sink>(
     source: &mut S,
     sink: &mut K,
 ) -> Report
+    requires { RunsLive (map string_bytes words.now) → ⊥ }
+
     // What is said of each command, and of all of them: what was read, which status there is, what the sink took, and what the report has.
     ensures report { IsReport (map string_bytes words.now)
         (outside (S.remaining source.old) (S.faults source.old) (S.faulted source.old) (K.taken sink.old) (K.faults sink.old) (K.faulted sink.old))

@@ -1,7 +1,6 @@
 ghost use Rattle.std.specs.Prelude.{None};
 
-use super::*;
-use crate::serial::Report;
+use crate::serial::{Report, gup_serial};
 use gup_io::{Failed, MemSink, MemSource, Sink, Source, SureSource};
 use gup_spec_grammar::{Reason, ScriptFault};
 use gup_test_cases::{EXAMPLES, RUNS};

@@ -58,7 +58,7 @@ returns-clause-run c =
           accepted = c.core_runs_are_accepted.ensures script notes end valid core;
           owned = c.plain_journals_are_owned.ensures script notes plain;
           causes =
-              (core.0, end, core.1, core.2, caused exact script valid (judged_first script) 1 (λ _. first_place) core.0 (run_start script) end ([], refl) core.2 (subst (AreSo IsRightAt script (judged_first script)) core.1 plain));
+              (core.0, end, core.1, core.2, caused exact script valid (judged_first script) 1 (λ _. first_place) core.0 (run_start script) end ([], refl) (c.runs_are_turns.ensures.run script core.0 (run_start script) end core.2) (subst (AreSo IsRightAt script (judged_first script)) core.1 plain));
           stale = c.looks_are_stale_with_cause.ensures.run script notes end valid core;
           core = core;
           ends = run.3;

@@ -1,4 +1,4 @@
--- What the program answers where it needs no threads, by what it was asked, and what has become of the outside meanwhile.
+-- What each command does: what the program answers, by what it was asked, and what has become of the outside meanwhile.
 use Rattle.std.specs.Prelude.{◌≡◌, ℕ, ◌==◌, ◌⊎◌, Bool, true, false, List, [], Option, None, IsSome, IfSome}
 use Rattle.std.specs.Io.KnownBytes.{Appends}
 use Rattle.gup_io.specs.Transfers.{Loses, AppendsPart}
@@ -14,9 +14,10 @@ use Rattle.gup_spec_check.specs.Verdicts.{IsFirstWrong}
 use Rattle.gup_check_front.specs.Reading.{OfTrace, AreTrace, IsNoTraceFor, IsTraceReadThrough}
 use Rattle.gup_check_front.specs.Judged.{IsCheckStatus, HasJudged, IsJudgedIn, IsPartlyJudged, IsReadAndJudged}
 use Rattle.gup.specs.Stuck.{run_text}
+use Rattle.gup.specs.LiveRun.{IsLiveTold}
 use Rattle.gup.specs.declared.command.Format.{Format}
 use Rattle.gup.specs.declared.serial.Report.{Report}
-use Rattle.gup.specs.Report.{IsRun, IsTraced, RunsScript, IsToldIn, IsChecked, IsMake, IsCommand}
+use Rattle.gup.specs.Report.{IsRun, IsTraced, RunsScript, IsToldIn, IsChecked, IsMake, IsLiveIn, RunsLive, IsCommand}
 use Rattle.gup.specs.Report.{HasRun, IsStatus, IsMadeStatus, IsRunOf, IsMadeRun, IsPartlyTold, IsEnd, usage}
 
 -- ---- the outside
@@ -58,6 +59,14 @@ IsWell before after =
 
 -- ---- the commands
 
+-- A command that reads a script. Status 3 comes only where the bytes are none, and for their first fault. The source is read to its end, to its
+-- first fault, or until one byte more than a script may have was given.
+pub record IsScriptRead (before after : Outside) (report : Report) : Type 0 where
+  pub refused : report.status ≡ 3 → OfScript before.left (λ script. ⊥)
+  pub refusal : IfSome report.refusal (IsRefusedFor before.left)
+  pub reading : Loses 0 1048577 before.left after.left
+  pub read_through : (report.status ≡ 5 → ⊥) → (report.status ≡ 7 → ⊥) → IsReadThrough before.left after.left
+
 -- `run` and `trace`.
 pub record IsRunReport (words : List (List ℕ)) (before after : Outside) (report : Report) : Type 0 where
   pub statuses : IsStatus report.status
@@ -80,18 +89,35 @@ pub record IsRunReport (words : List (List ℕ)) (before after : Outside) (repor
   pub never_wrong : HasRun report.status → OfScript before.left (λ script. (n : ℕ) → IsFirstWrong script report.journal.notes n → ⊥)
   -- bytes that are a script are run, where neither the source nor the sink fails, unless memory runs out
   pub complete : IsWell before after → OfScript before.left (λ script. IsEnd script report.status report.journal.notes)
-  -- status 3 comes only where the bytes are no script, and for their first fault
-  pub refused : report.status ≡ 3 → OfScript before.left (λ script. ⊥)
-  pub refusal : IfSome report.refusal (IsRefusedFor before.left)
-  -- the source is read to its end, to its first fault, or until one byte more than a script may have was given
-  pub reading : Loses 0 1048577 before.left after.left
-  pub read_through : (report.status ≡ 5 → ⊥) → (report.status ≡ 7 → ⊥) → IsReadThrough before.left after.left
+  pub read : IsScriptRead before after report
   -- at status 6 the sink took a prefix of the text of the run, if no script was refused
   pub text_part : (format : Format) → IsToldIn words format → report.status ≡ 6 → OfText before.left
       (λ bytes script. IsPartlyTold format bytes script report.journal.notes before.taken after.taken)
   pub refused_or_ran : (format : Format) → IsToldIn words format → report.status ≡ 6 → IsSome report.refusal
       ⊎ ((bytes : List ℕ) × (script : ScriptValue) × AreBytes before.left bytes × Accepts bytes script
       × IsPartlyTold format bytes script report.journal.notes before.taken after.taken)
+
+-- `live` and `live trace`: the actors of the script run on threads of their own. What is said here is so if they come to an end; actors that are
+-- stuck never do, so there is no status 4.
+pub record IsLiveReport (words : List (List ℕ)) (before after : Outside) (report : Report) : Type 0 where
+  pub statuses : (report.status ≡ 0) ⊎ (report.status ≡ 3) ⊎ (report.status ≡ 5) ⊎ (report.status ≡ 6) ⊎ (report.status ≡ 7)
+  -- The headline, of the order that the threads have found: where the source tells its bytes, they are a script, all its actors have taken their
+  -- turns in that order, whose journal follows the script, is plain and thorough, and refuses with cause; and what the sink took are the answers
+  -- of that journal, actor by actor, or its trace, and nothing else. The report has the order, the journal and the answers.
+  pub script : report.status ≡ 0 → AreScript before.left
+  pub told : (format : Format) → IsLiveIn words format → report.status ≡ 0 → OfText before.left
+      (λ bytes script. IsLiveTold format bytes script report.live (Takes before after))
+  -- bytes that are a script are run, where neither the source nor the sink fails, unless memory runs out
+  pub complete : IsWell before after → OfScript before.left (λ script. (report.status ≡ 0) ⊎ (report.status ≡ 7))
+  pub read : IsScriptRead before after report
+  -- at status 6 the sink took a prefix of the text of the run, if no script was refused
+  pub text_part : (format : Format) → IsLiveIn words format → report.status ≡ 6 → OfText before.left
+      (λ bytes script. IsLiveTold format bytes script report.live (TakesPart before after))
+  pub refused_or_ran : (format : Format) → IsLiveIn words format → report.status ≡ 6 → IsSome report.refusal
+      ⊎ ((bytes : List ℕ) × (script : ScriptValue) × AreBytes before.left bytes × Accepts bytes script
+      × IsLiveTold format bytes script report.live (TakesPart before after))
+  pub unrun : report.journal.notes ≡ []
+  pub none : (report.status ≡ 3) ⊎ (report.status ≡ 5) ⊎ (report.status ≡ 7) → report.live ≡ None
 
 -- `check`: the trace that the source has is judged, as gup_check_front says.
 pub record IsCheckReport (before after : Outside) (report : Report) : Type 0 where
@@ -153,9 +179,11 @@ pub record IsRefusalTold (before after : Outside) (report : Report) : Type 0 whe
 -- What the words ask is what is done. Status 2 comes exactly where they are no command, unless the sink fails.
 pub record IsReport (words : List (List ℕ)) (before after : Outside) (report : Report) : Type 0 where
   pub runs : RunsScript words → IsRunReport words before after report
+  pub lives : RunsLive words → IsLiveReport words before after report
   pub checks : IsChecked words → IsCheckReport before after report
   pub makes : (n : ℕ) → IsMake words n → IsMakeReport n before after report
   pub usage : (IsCommand words → ⊥) → IsUsageReport before after report
   pub command : report.status ≡ 2 → IsCommand words → ⊥
+  pub live : (RunsLive words → ⊥) → report.live ≡ None
   pub faults : AreFaultsTold before after report.status
   pub refusal : IsRefusalTold before after report

@@ -1,0 +1,3 @@
+mod BusTurns
+mod FewOperations
+mod Lives
