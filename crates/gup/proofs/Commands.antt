@@ -12,28 +12,12 @@ use Rattle.gup.specs.declared.command.Command.TheVariants.{Run, Check, Make}
 use Rattle.gup.specs.declared.command.Format.{Format}
 use Rattle.gup.specs.declared.command.Format.TheVariants.{Answers, Trace}
 
--- lists of one and of two
-
-pub one_of : {X : Type 0} (f : X → List ℕ) (xs : List X) (x : X) → 1 ≤ length xs → length xs < 2 → x ≡ get_or xs 0 x → map f xs ≡ f x ∷ []
-one_of f [] x some few is = absurd (omega arith)
-one_of f (y ∷ []) x some few is = ap (λ z. f z ∷ []) (sym is)
-one_of f (y ∷ z ∷ ys) x some few is = absurd (omega arith)
-
+-- the words of a list of two
 pub two_of : {X : Type 0} (f : X → List ℕ) (xs : List X) (x y : X) → 2 ≤ length xs → length xs < 3 → x ≡ get_or xs 0 x → y ≡ get_or xs 1 y → map f xs ≡ f x ∷ f y ∷ []
 two_of f [] x y some few is next = absurd (omega arith)
 two_of f (a ∷ []) x y some few is next = absurd (omega arith)
 two_of f (a ∷ b ∷ []) x y some few is next = ap₂ (λ v w. f v ∷ f w ∷ []) (sym is) (sym next)
 two_of f (a ∷ b ∷ c ∷ xs) x y some few is next = absurd (omega arith)
-
--- one word asks for a command
-pub asked_words : (words : List (List ℕ)) (word : List ℕ) (command : Command) → words ≡ word ∷ [] → IsAsked (word ∷ []) command → IsAsked words command
-asked_words words word command are asked = subst (λ (w : List (List ℕ)). IsAsked w command) (sym are) asked
-
--- or for nothing
-pub one_no_command : (words : List (List ℕ)) (word : List ℕ) → words ≡ word ∷ [] → (RunsScript (word ∷ []) → ⊥) → (IsChecked (word ∷ []) → ⊥) → IsSerial words → ⊥
-one_no_command words word are none unchecked (inl run) = none (subst RunsScript are run)
-one_no_command words word are none unchecked (inr (inl checked)) = unchecked (subst IsChecked are checked)
-one_no_command words word are none unchecked (inr (inr made)) = let e = sym are ∙ made.1.0 in absurd (cc)
 
 -- those of `make`, by the number that was read
 pub make_words : (words : List (List ℕ)) (word count : List ℕ) (n : ℕ) → words ≡ word ∷ count ∷ [] → bytes_eq word (codes "make") ≡ true → number_in count ≡ Some n → IsMake words n

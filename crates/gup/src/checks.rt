@@ -1,12 +1,15 @@
 //! Tests of the command `check`.
-use crate::serial::gup_serial;
 use crate::tests::{FIRST, expect, owned};
-use gup_io::{MemSink, MemSource, SureSource};
+use crate::top::gup;
+use gup_io::{MemSink, MemSource, NoPace, SureSource};
 use gup_spec_grammar::{Reason, ScriptFault};
 use gup_test_cases::EXAMPLES;
 use std::alloc::Global;
+use std::marker::Sync;
 use std::process::Abort;
+use std::sync::Wait;
 use std::test::Fail;
+use std::thread::Threads;
 
 /// The notes of the first run.
 const NOTES: &str =
@@ -133,7 +136,7 @@ const OTHERS: [(&str, u8, &str); 12] = [
 ];
 
 fn expect_verdict(
-    rt: &impl Abort,
+    rt: &(impl Abort + Threads + Wait + Sync),
     alloc: Global,
     notes: &str,
     status: u8,
@@ -158,16 +161,21 @@ fn verdicts(rt: HostRuntime) -> Result<(), Fail> {
 }
 
 /// The trace of each example is accepted: wholly where its run has finished, and openly where actors are stuck.
-fn expect_accepted(rt: &impl Abort, alloc: Global, script: &str, status: u8) -> Result<(), Fail> {
+fn expect_accepted(
+    rt: &(impl Abort + Threads + Wait + Sync),
+    alloc: Global,
+    script: &str,
+    status: u8,
+) -> Result<(), Fail> {
     let words = owned(alloc, &["trace"])?;
     let mut source = SureSource::new(script.as_bytes().to_vec(alloc)?);
     let mut sink = MemSink::with_room(alloc, 1_000_000, Vec::new(alloc))?;
-    let report = gup_serial(alloc, words.as_slice(), &mut source, &mut sink);
+    let report = gup(rt, alloc, words.as_slice(), &mut source, &mut sink, &NoPace);
     assert_eq!(rt; report.status, status, "{script}");
     let words = owned(alloc, &["check"])?;
     let mut source = SureSource::new(sink.bytes().to_vec(alloc)?);
     let mut sink = MemSink::with_room(alloc, 99, Vec::new(alloc))?;
-    let report = gup_serial(alloc, words.as_slice(), &mut source, &mut sink);
+    let report = gup(rt, alloc, words.as_slice(), &mut source, &mut sink, &NoPace);
     assert_eq!(rt; report.status, 0, "{script}");
     let verdict = if status == 0 { "yes\n" } else { "open\n" };
     assert_eq!(rt; sink.bytes(), verdict.as_bytes(), "{script}");
@@ -217,7 +225,14 @@ fn checks_and_faults(rt: HostRuntime) -> Result<(), Fail> {
         let reads = [read].to_vec(rt.alloc())?;
         let mut source = MemSource::new(trace.as_bytes().to_vec(rt.alloc())?, reads);
         let mut sink = MemSink::with_room(rt.alloc(), room, Vec::new(rt.alloc()))?;
-        let report = gup_serial(rt.alloc(), words.as_slice(), &mut source, &mut sink);
+        let report = gup(
+            &rt,
+            rt.alloc(),
+            words.as_slice(),
+            &mut source,
+            &mut sink,
+            &NoPace,
+        );
         assert_eq!(rt; report.status, status);
         assert_eq!(rt; sink.bytes(), text.as_bytes());
     }

@@ -1,5 +1,5 @@
 //! Tests of the command `live`.
-use crate::serial::{Report, gup_serial};
+use crate::serial::Report;
 use crate::tests::owned;
 use crate::top::gup;
 use gup_base::ActorNo;
@@ -204,13 +204,13 @@ fn expect_again<R: Abort + Threads + Wait + Sync>(
     let words = owned(alloc, &["trace"])?;
     let mut source = SureSource::new(written);
     let mut sink = MemSink::with_room(alloc, 2_000_000, Vec::new(alloc))?;
-    let report = gup_serial(alloc, words.as_slice(), &mut source, &mut sink);
+    let report = gup(rt, alloc, words.as_slice(), &mut source, &mut sink, &NoPace);
     assert_eq!(rt; report.status, 0, "{script}");
     assert_eq!(rt; sink.bytes(), trace.as_slice(), "{script}");
     let words = owned(alloc, &["check"])?;
     let mut source = SureSource::new(trace);
     let mut sink = MemSink::with_room(alloc, 99, Vec::new(alloc))?;
-    gup_serial(alloc, words.as_slice(), &mut source, &mut sink);
+    gup(rt, alloc, words.as_slice(), &mut source, &mut sink, &NoPace);
     assert_eq!(rt; sink.bytes(), "yes\n".as_bytes(), "{script}");
     Ok(())
 }

@@ -1,12 +1,16 @@
 ghost use Rattle.std.specs.Prelude.{None};
 
-use crate::serial::{Report, gup_serial};
-use gup_io::{Failed, MemSink, MemSource, Sink, Source, SureSource};
+use crate::serial::Report;
+use crate::top::gup;
+use gup_io::{Failed, MemSink, MemSource, NoPace, Sink, Source, SureSource};
 use gup_spec_grammar::{Reason, ScriptFault};
 use gup_test_cases::{EXAMPLES, RUNS};
 use std::alloc::{AllocError, Global};
+use std::marker::Sync;
 use std::process::Abort;
+use std::sync::Wait;
 use std::test::Fail;
+use std::thread::Threads;
 
 /// The lines before the first operation.
 const HEAD: &str = "gup 1\nframes 8 8 64\nprocess p\nthread t p\n";
@@ -167,7 +171,7 @@ pub(crate) fn owned(alloc: Global, words: &[&str]) -> Result<Vec<String>, AllocE
 
 /// The program on a source and a sink that never fail.
 pub(crate) fn expect(
-    rt: &impl Abort,
+    rt: &(impl Abort + Threads + Wait + Sync),
     alloc: Global,
     words: &[&str],
     script: &str,
@@ -177,7 +181,7 @@ pub(crate) fn expect(
     let words = owned(alloc, words)?;
     let mut source = SureSource::new(script.as_bytes().to_vec(alloc)?);
     let mut sink = MemSink::with_room(alloc, 20_000, Vec::new(alloc))?;
-    let report = gup_serial(alloc, words.as_slice(), &mut source, &mut sink);
+    let report = gup(rt, alloc, words.as_slice(), &mut source, &mut sink, &NoPace);
     assert_eq!(rt; report.status, status, "{script}");
     assert_eq!(rt; sink.bytes(), text.as_bytes(), "{script}");
     Ok(report)
@@ -192,7 +196,7 @@ fn first_run(rt: HostRuntime) -> Result<(), Fail> {
 }
 
 fn expect_trace(
-    rt: &impl Abort,
+    rt: &(impl Abort + Threads + Wait + Sync),
     alloc: Global,
     script: &str,
     status: u8,
@@ -278,7 +282,14 @@ fn made_scripts_and_faults(rt: HostRuntime) -> Result<(), Fail> {
         let reads = [1].to_vec(rt.alloc())?;
         let mut source = MemSource::new(FIRST.as_bytes().to_vec(rt.alloc())?, reads);
         let mut sink = MemSink::with_room(rt.alloc(), room, Vec::new(rt.alloc()))?;
-        let report = gup_serial(rt.alloc(), words.as_slice(), &mut source, &mut sink);
+        let report = gup(
+            &rt,
+            rt.alloc(),
+            words.as_slice(),
+            &mut source,
+            &mut sink,
+            &NoPace,
+        );
         assert_eq!(rt; report.status, status);
         assert_eq!(rt; sink.bytes(), text.as_bytes());
     }
@@ -327,7 +338,14 @@ fn faults_in_memory(rt: HostRuntime) -> Result<(), Fail> {
         let writes = [write].to_vec(rt.alloc())?;
         let mut source = MemSource::new(FIRST.as_bytes().to_vec(rt.alloc())?, reads);
         let mut sink = MemSink::with_room(rt.alloc(), room, writes)?;
-        let report = gup_serial(rt.alloc(), words.as_slice(), &mut source, &mut sink);
+        let report = gup(
+            &rt,
+            rt.alloc(),
+            words.as_slice(),
+            &mut source,
+            &mut sink,
+            &NoPace,
+        );
         assert_eq!(rt; report.status, status, "{read} {write} {room}");
         assert_eq!(rt; sink.bytes(), text.as_bytes(), "{read} {write} {room}");
         assert_eq!(rt; report.refusal, None);
@@ -337,7 +355,7 @@ fn faults_in_memory(rt: HostRuntime) -> Result<(), Fail> {
 
 /// The first run, byte by byte, with the read and the write of these numbers failing.
 fn expect_faults(
-    rt: &impl Abort,
+    rt: &(impl Abort + Threads + Wait + Sync),
     alloc: Global,
     read: u64,
     write: u64,
@@ -360,7 +378,7 @@ fn expect_faults(
         faults: 0,
         faulted: false,
     };
-    let report = gup_serial(alloc, words.as_slice(), &mut source, &mut sink);
+    let report = gup(rt, alloc, words.as_slice(), &mut source, &mut sink, &NoPace);
     assert_eq!(rt; report.status, status, "read {read}, write {write}");
     assert_eq!(rt; sink.bytes.as_slice(), text, "read {read}, write {write}");
     Ok(())
@@ -387,7 +405,14 @@ fn a_stuck_run_that_is_not_written(rt: HostRuntime) -> Result<(), Fail> {
     let stuck = "gup 1\nframes 8 8 64\nchild c\nthread u c\non u exit\n";
     let mut source = SureSource::new(stuck.as_bytes().to_vec(rt.alloc())?);
     let mut sink = MemSink::with_room(rt.alloc(), 5, Vec::new(rt.alloc()))?;
-    let report = gup_serial(rt.alloc(), words.as_slice(), &mut source, &mut sink);
+    let report = gup(
+        &rt,
+        rt.alloc(),
+        words.as_slice(),
+        &mut source,
+        &mut sink,
+        &NoPace,
+    );
     assert_eq!(rt; report.status, 6);
     assert_eq!(rt; sink.bytes(), "stuck".as_bytes());
     Ok(())
