@@ -4,9 +4,10 @@ use crate::tests::owned;
 use crate::top::gup;
 use gup_base::ActorNo;
 use gup_io::{MemSink, MemSource, NoPace, Pace, SureSource};
-use gup_lines::push_text;
+use gup_lines::{name_of, push_text};
 use gup_make::make_text;
 use gup_read::read_script;
+use gup_script::Script;
 use gup_spec_grammar::{Reason, ScriptFault};
 use gup_trace::push_journal;
 use std::alloc::Global;
@@ -108,6 +109,22 @@ fn script_of(alloc: Global, operations: &str) -> Result<String, Fail> {
     Ok(format!(in alloc; "{HEAD}{operations}")?)
 }
 
+/// Runs the program on a source that never fails, and a sink with this room.
+fn ran<R: Threads + Wait + Sync, P: Pace + Sync>(
+    rt: &R,
+    alloc: Global,
+    word: &str,
+    input: &[u8],
+    room: usize,
+    pace: &P,
+) -> Result<(Report, MemSink), Fail> {
+    let words = owned(alloc, &[word])?;
+    let mut source = SureSource::new(input.to_vec(alloc)?);
+    let mut sink = MemSink::with_room(alloc, room, Vec::new(alloc))?;
+    let report = gup(rt, alloc, words.as_slice(), &mut source, &mut sink, pace);
+    Ok((report, sink))
+}
+
 /// Runs the script by `live`, and wants this text.
 fn expect_live<R: Abort + Threads + Wait + Sync, P: Pace + Sync>(
     rt: &R,
@@ -117,30 +134,62 @@ fn expect_live<R: Abort + Threads + Wait + Sync, P: Pace + Sync>(
     status: u8,
     text: &str,
 ) -> Result<Report, Fail> {
-    let words = owned(alloc, &["live"])?;
-    let mut source = SureSource::new(script.as_bytes().to_vec(alloc)?);
-    let mut sink = MemSink::with_room(alloc, 20_000, Vec::new(alloc))?;
-    let report = gup(rt, alloc, words.as_slice(), &mut source, &mut sink, pace);
+    let (report, sink) = ran(rt, alloc, "live", script.as_bytes(), 20_000, pace)?;
     assert_eq!(rt; report.status, status, "{script}");
     assert_eq!(rt; sink.bytes(), text.as_bytes(), "{script}");
     assert!(rt; report.journal.notes().is_empty());
     Ok(report)
 }
 
+/// Runs the script once, and no actor may miss the others at the gate.
+fn expect_met<R: Abort + Threads + Wait + Sync>(
+    rt: &R,
+    alloc: Global,
+    script: &str,
+    text: &str,
+    meets: &[(u64, u32)],
+) -> Result<(), Fail> {
+    let gate = Gate::at(meets);
+    expect_live(rt, alloc, script, &gate, 0, text)?;
+    assert_eq!(rt; gate.missed.load(Ordering::SeqCst), 0, "{script}");
+    Ok(())
+}
+
 /// Each thread holds its actor alone: actors meet in the middle of their operations, a hundred times.
 #[test]
 fn actors_meet(rt: HostRuntime) -> Result<(), Fail> {
-    let cases: [((&str, &str), &[(u64, u32)]); 2] = [
-        (GIVEN, &[(0, 4), (3, 2)]),
-        (APART, &[(0, 1), (1, 1), (3, 1), (4, 1)]),
-    ];
-    for ((operations, text), meets) in cases {
-        let script = script_of(rt.alloc(), operations)?;
-        for _ in 0..100 {
-            let gate = Gate::at(meets);
-            expect_live(&rt, rt.alloc(), script.as_str(), &gate, 0, text)?;
-            assert_eq!(&rt; gate.missed.load(Ordering::SeqCst), 0, "{script}");
-        }
+    let given = script_of(rt.alloc(), GIVEN.0)?;
+    let apart = script_of(rt.alloc(), APART.0)?;
+    for _ in 0..100 {
+        expect_met(&rt, rt.alloc(), given.as_str(), GIVEN.1, &[(0, 4), (3, 2)])?;
+        let all = [(0, 1), (1, 1), (3, 1), (4, 1)];
+        expect_met(&rt, rt.alloc(), apart.as_str(), APART.1, &all)?;
+    }
+    Ok(())
+}
+
+/// Runs the script once, and each actor may be told of so many operations.
+fn expect_told<R: Abort + Threads + Wait + Sync>(
+    rt: &R,
+    alloc: Global,
+    case: (&str, &str),
+    counts: [u64; 5],
+) -> Result<(), Fail> {
+    let pace = Counts {
+        next: [
+            AtomicU64::new(0),
+            AtomicU64::new(0),
+            AtomicU64::new(0),
+            AtomicU64::new(0),
+            AtomicU64::new(0),
+        ],
+        wrong: AtomicU64::new(0),
+    };
+    let script = script_of(alloc, case.0)?;
+    expect_live(rt, alloc, script.as_str(), &pace, 0, case.1)?;
+    assert_eq!(rt; pace.wrong.load(Ordering::SeqCst), 0);
+    for k in 0..5 {
+        assert_eq!(rt; pace.next[k].load(Ordering::SeqCst), counts[k]);
     }
     Ok(())
 }
@@ -148,30 +197,41 @@ fn actors_meet(rt: HostRuntime) -> Result<(), Fail> {
 /// The pace is told of each operation of an actor once, in order, and of no other.
 #[test]
 fn each_operation_is_told_to_the_pace(rt: HostRuntime) -> Result<(), Fail> {
-    for ((operations, text), counts) in [
-        (GIVEN, [4, 0, 0, 2, 0]),
-        (APART, [1, 1, 0, 1, 1]),
-        (BUFFER, [9, 0, 0, 4, 0]),
-        (FORKED, [5, 0, 3, 0, 0]),
-        (("", ""), [0, 0, 0, 0, 0]),
-    ] {
-        let pace = Counts {
-            next: [
-                AtomicU64::new(0),
-                AtomicU64::new(0),
-                AtomicU64::new(0),
-                AtomicU64::new(0),
-                AtomicU64::new(0),
-            ],
-            wrong: AtomicU64::new(0),
-        };
-        let script = script_of(rt.alloc(), operations)?;
-        expect_live(&rt, rt.alloc(), script.as_str(), &pace, 0, text)?;
-        assert_eq!(&rt; pace.wrong.load(Ordering::SeqCst), 0, "{script}");
-        for k in 0..5 {
-            assert_eq!(&rt; pace.next[k].load(Ordering::SeqCst), counts[k], "{script}");
-        }
+    expect_told(&rt, rt.alloc(), GIVEN, [4, 0, 0, 2, 0])?;
+    expect_told(&rt, rt.alloc(), APART, [1, 1, 0, 1, 1])?;
+    expect_told(&rt, rt.alloc(), BUFFER, [9, 0, 0, 4, 0])?;
+    expect_told(&rt, rt.alloc(), FORKED, [5, 0, 3, 0, 0])?;
+    expect_told(&rt, rt.alloc(), ("", ""), [0, 0, 0, 0, 0])
+}
+
+/// The script with these written turns behind it.
+fn with_turns(
+    alloc: Global,
+    text: &str,
+    script: &Script,
+    order: &[ActorNo],
+) -> Result<Vec<u8>, Fail> {
+    let mut written = text.as_bytes().to_vec(alloc)?;
+    push_text(&mut written, "turns")?;
+    for actor in order {
+        push_text(&mut written, " ")?;
+        push_text(&mut written, name_of(script, *actor))?;
     }
+    push_text(&mut written, "\n")?;
+    Ok(written)
+}
+
+/// Runs the program without threads, and wants status 0 and this text.
+fn expect_text<R: Abort + Threads + Wait + Sync>(
+    rt: &R,
+    alloc: Global,
+    word: &str,
+    input: &[u8],
+    text: &[u8],
+) -> Result<(), Fail> {
+    let (report, sink) = ran(rt, alloc, word, input, 2_000_000, &NoPace)?;
+    assert_eq!(rt; report.status, 0);
+    assert_eq!(rt; sink.bytes(), text);
     Ok(())
 }
 
@@ -180,39 +240,19 @@ fn each_operation_is_told_to_the_pace(rt: HostRuntime) -> Result<(), Fail> {
 fn expect_again<R: Abort + Threads + Wait + Sync>(
     rt: &R,
     alloc: Global,
-    script: &str,
+    text: &str,
     answers: usize,
 ) -> Result<(), Fail> {
-    let words = owned(alloc, &["live"])?;
-    let mut source = SureSource::new(script.as_bytes().to_vec(alloc)?);
-    let mut sink = MemSink::with_room(alloc, 20_000, Vec::new(alloc))?;
-    let report = gup(rt, alloc, words.as_slice(), &mut source, &mut sink, &NoPace);
-    assert_eq!(rt; report.status, 0, "{script}");
-    let (Some(live), Ok(found)) = (report.live, read_script(alloc, script.as_bytes())) else {
-        panic!(rt; "{script}");
+    let (report, _sink) = ran(rt, alloc, "live", text.as_bytes(), 20_000, &NoPace)?;
+    let (Some(live), Ok(script)) = (report.live, read_script(alloc, text.as_bytes())) else {
+        panic!(rt; "{text}");
     };
-    assert_eq!(rt; live.outcomes().len(), answers, "{script}");
-    let mut trace = script.as_bytes().to_vec(alloc)?;
-    push_text(&mut trace, "turns")?;
-    for actor in live.order() {
-        push_text(&mut trace, " ")?;
-        push_text(&mut trace, found.name_of(*actor))?;
-    }
-    push_text(&mut trace, "\n")?;
-    let written = trace.as_slice().to_vec(alloc)?;
-    push_journal(&found, live.notes(), &mut trace)?;
-    let words = owned(alloc, &["trace"])?;
-    let mut source = SureSource::new(written);
-    let mut sink = MemSink::with_room(alloc, 2_000_000, Vec::new(alloc))?;
-    let report = gup(rt, alloc, words.as_slice(), &mut source, &mut sink, &NoPace);
-    assert_eq!(rt; report.status, 0, "{script}");
-    assert_eq!(rt; sink.bytes(), trace.as_slice(), "{script}");
-    let words = owned(alloc, &["check"])?;
-    let mut source = SureSource::new(trace);
-    let mut sink = MemSink::with_room(alloc, 99, Vec::new(alloc))?;
-    gup(rt, alloc, words.as_slice(), &mut source, &mut sink, &NoPace);
-    assert_eq!(rt; sink.bytes(), "yes\n".as_bytes(), "{script}");
-    Ok(())
+    assert_eq!(rt; live.outcomes().len(), answers);
+    let written = with_turns(alloc, text, &script, live.order())?;
+    let mut trace = written.as_slice().to_vec(alloc)?;
+    push_journal(&script, live.notes(), &mut trace)?;
+    expect_text(rt, alloc, "trace", written.as_slice(), trace.as_slice())?;
+    expect_text(rt, alloc, "check", trace.as_slice(), "yes\n".as_bytes())
 }
 
 #[test]
@@ -229,33 +269,34 @@ fn an_order_can_be_run_again(rt: HostRuntime) -> Result<(), Fail> {
     expect_again(&rt, rt.alloc(), operations, 166)
 }
 
-/// Sources and sinks that fail, texts that are no script, and words that are no command: as of `run`, but that no one is stuck.
+/// The status of `live` over a source and a sink whose calls fail where the numbers say, and what the sink took.
+fn expect_faults<R: Abort + Threads + Wait + Sync>(
+    rt: &R,
+    alloc: Global,
+    read: u32,
+    write: u32,
+    room: usize,
+    status: u8,
+    text: &str,
+) -> Result<(), Fail> {
+    let script = script_of(alloc, APART.0)?;
+    let words = owned(alloc, &["live"])?;
+    let mut source = MemSource::new(script.as_bytes().to_vec(alloc)?, [read].to_vec(alloc)?);
+    let mut sink = MemSink::with_room(alloc, room, [write].to_vec(alloc)?)?;
+    let report = gup(rt, alloc, words.as_slice(), &mut source, &mut sink, &NoPace);
+    assert_eq!(rt; report.status, status);
+    assert_eq!(rt; sink.bytes(), text.as_bytes());
+    assert_eq!(rt; report.live.is_some(), status != 5);
+    Ok(())
+}
+
+/// Sources and sinks that fail, and a text that is no script: as of `run`.
 #[test]
 fn faults_of_live(rt: HostRuntime) -> Result<(), Fail> {
-    let script = script_of(rt.alloc(), APART.0)?;
-    let words = owned(rt.alloc(), &["live"])?;
-    for (read, write, room, status, text) in [
-        (1, 0, 99, 5, ""),
-        (0, 0, 99, 0, APART.1),
-        (0, 1, 99, 6, ""),
-        (0, 0, 7, 6, "t 1 ok\n"),
-    ] {
-        let reads = [read].to_vec(rt.alloc())?;
-        let writes = [write].to_vec(rt.alloc())?;
-        let mut source = MemSource::new(script.as_bytes().to_vec(rt.alloc())?, reads);
-        let mut sink = MemSink::with_room(rt.alloc(), room, writes)?;
-        let report = gup(
-            &rt,
-            rt.alloc(),
-            words.as_slice(),
-            &mut source,
-            &mut sink,
-            &NoPace,
-        );
-        assert_eq!(&rt; report.status, status, "{read} {write} {room}");
-        assert_eq!(&rt; sink.bytes(), text.as_bytes(), "{read} {write} {room}");
-        assert_eq!(&rt; report.live.is_some(), status == 0 || status == 6);
-    }
+    expect_faults(&rt, rt.alloc(), 1, 0, 99, 5, "")?;
+    expect_faults(&rt, rt.alloc(), 0, 0, 99, 0, APART.1)?;
+    expect_faults(&rt, rt.alloc(), 0, 1, 99, 6, "")?;
+    expect_faults(&rt, rt.alloc(), 0, 0, 7, 6, "t 1 ok\n")?;
     let report = expect_live(&rt, rt.alloc(), "gup 1\n", &NoPace, 3, "line 2: short\n")?;
     let (line, reason) = (2, Reason::Short);
     assert_eq!(&rt; report.refusal, Some(ScriptFault { line, reason }));
