@@ -1,26 +1,13 @@
 -- Which frames are free, and how many.
-use Rattle.std.proofs.Common.{◌≡◌, ◌≢◌, ℕ, zero, suc, ◌+◌, ◌<◌, ◌≤◌, eqb, ltb, Bool, true, false, not, cond, Option, Some, None, IfSome, refl, ap, sym, ◌∙◌, ⊎_elim, arith}
-use Rattle.std.proofs.lemmas.Bool.{cases_Bool, eqb-true}
+use Rattle.std.proofs.Common.{◌≡◌, ◌≢◌, ℕ, zero, suc, ◌+◌, ◌<◌, ◌≤◌, eqb, ltb, Bool, true, false, not, cond, Option, Some, None, IfSome, refl, ap, sym, ◌∙◌, arith}
+use Rattle.std.proofs.lemmas.Bool.{eqb-true}
 use Rattle.std.proofs.lemmas.Bool.Decides.{nat_tests}
 use Rattle.gup_base.specs.declared.entry.Allowed.{Allowed}
 use Rattle.gup_base.specs.declared.entry.Allowed.TheVariants.{Any, Only}
 use Rattle.gup_base.specs.declared.entry.Zone.TheVariants.{Movable, Normal}
-use Rattle.gup_plain.specs.Put.{lowest, within}
+use Rattle.gup_plain.specs.Put.{within}
+use Rattle.gup_bits.proofs.Lowest.{lowest_some}
 use Rattle.gup_frames.specs.Frames.{FramesValue, frames_in, free_in, free_frame}
-
--- what the lowest that passes a test is
-pub lowest_some : (first n : ℕ) (test : ℕ → Bool) (k : ℕ) → lowest first n test ≡ Some k → (first ≤ k) × (k < first + n) × (test k ≡ true)
-lowest_some first zero test k is = absurd cc
-lowest_some first (suc n) test k is =
-    ⊎_elim
-    (λ (yes : test first ≡ true).
-    let one : Some first ≡ Some k = rw yes at is in
-    let same : first ≡ k = cc in
-    (omega arith, omega arith, rw (← same) yes))
-    (λ (no : test first ≡ false).
-    let later = lowest_some (first + 1) n test k (rw no at is) in
-    (omega (arith, later.0), omega (arith, later.1), later.2))
-    (cases_Bool (test first))
 
 -- the free frame that is found is there, and has no references
 found_free : (s : FramesValue) (allowed : Allowed) (f : ℕ) → free_frame s allowed ≡ Some f → (f < frames_in s) × (s.count f ≡ 0)

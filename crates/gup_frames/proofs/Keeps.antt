@@ -5,10 +5,10 @@ use Rattle.std.proofs.lemmas.List.{get_or_default, get_or_past, get_or-replicate
 use Rattle.std.proofs.lemmas.Bool.{cases_eq, cases_lt}
 use Rattle.std.proofs.lemmas.Bool.Decides.{nat_tests}
 use Rattle.gup_plain.specs.Put.{put, lowest}
-use Rattle.gup_frames.specs.Bits.{has}
+use Rattle.gup_bits.specs.Bits.{has, room_of}
 use Rattle.gup_frames.specs.Frames.{FrameLists, FramesValue, frames_of, free_in, free_from, word_in, claimed, taken, copied, without_references}
 use Rattle.gup_frames.specs.Kept.{IsKept}
-use Rattle.gup_frames.proofs.Bits.{lowest_same}
+use Rattle.gup_bits.proofs.Lowest.{lowest_same}
 use Rattle.gup_frames.proofs.Free.{free_in-all, free_in-le, free_of-freed}
 
 -- the lowest of the set is the lowest free one
@@ -28,6 +28,7 @@ kept-words l room free a b kept words room_now roomy few_words =
       marks = kept.marks;
       words = omega (arith, kept.words, roomy);
       few_words = few_words;
+      set_room = kept.set_room;
       set = kept.set;
       movable = kept.movable;
       normal = kept.normal;
@@ -41,13 +42,14 @@ module _ (l : FrameLists) (room : ℕ) (free : List ℕ) (a b f : ℕ) (kept : I
       let len : length l.counts ≡ l.movable + l.normal = kept.counts in
       get_or-set_same l.counts f count d (omega arith)
 
-  pub kept-changed : (new words : List ℕ) (room_now count : ℕ) (mark : Bool) (a' b' : ℕ) → room ≤ room_now → length words ≤ 512 * (l.movable + l.normal) → has new ≡ put f (eqb count 0) (has free) → a' ≡ free_in (frames_of record { movable = l.movable; normal = l.normal; counts = set l.counts f count; marks = set l.marks f mark; words = words }) 0 l.movable → b' ≡ free_in (frames_of record { movable = l.movable; normal = l.normal; counts = set l.counts f count; marks = set l.marks f mark; words = words }) l.movable l.normal → IsKept (record { movable = l.movable; normal = l.normal; counts = set l.counts f count; marks = set l.marks f mark; words = words }) room_now new a' b'
-  kept-changed new words room_now count mark a' b' roomy few_words bits movable normal = record {
+  pub kept-changed : (new words : List ℕ) (room_now count : ℕ) (mark : Bool) (a' b' : ℕ) → room ≤ room_now → length words ≤ 512 * (l.movable + l.normal) → has new ≡ put f (eqb count 0) (has free) → room_of new ≡ room_of free → a' ≡ free_in (frames_of record { movable = l.movable; normal = l.normal; counts = set l.counts f count; marks = set l.marks f mark; words = words }) 0 l.movable → b' ≡ free_in (frames_of record { movable = l.movable; normal = l.normal; counts = set l.counts f count; marks = set l.marks f mark; words = words }) l.movable l.normal → IsKept (record { movable = l.movable; normal = l.normal; counts = set l.counts f count; marks = set l.marks f mark; words = words }) room_now new a' b'
+  kept-changed new words room_now count mark a' b' roomy few_words bits bits_room movable normal = record {
     few = kept.few;
     counts = length-set l.counts f count ∙ kept.counts;
     marks = length-set l.marks f mark ∙ kept.marks;
     words = omega (arith, kept.words);
     few_words = few_words;
+    set_room = omega (arith, kept.set_room, bits_room);
     set = λ j.
         ⊎_elim
         (λ (e : j ≡ f).
@@ -129,8 +131,8 @@ zeros n j =
     (λ (h : n ≤ j). let len : length (replicate {A = ℕ} n 0) ≡ n = length-replicate {A = ℕ} n 0 in get_or_past (replicate n 0) j 0 (omega arith))
     (cases_lt j n)
 
-pub kept-new : (m n room : ℕ) (counts words : List ℕ) (marks : List Bool) (free : List ℕ) → m + n ≤ 1024 → counts ≡ replicate (m + n) 0 → length marks ≡ m + n → 512 * (m + n) ≤ room → length words ≤ 512 * (m + n) → has free ≡ (λ k. ltb k (m + n)) → IsKept (record { movable = m; normal = n; counts = counts; marks = marks; words = words }) room free m n
-kept-new m n room counts words marks free few is len_marks roomy few_words bits =
+pub kept-new : (m n room : ℕ) (counts words : List ℕ) (marks : List Bool) (free : List ℕ) → m + n ≤ 1024 → counts ≡ replicate (m + n) 0 → length marks ≡ m + n → 512 * (m + n) ≤ room → length words ≤ 512 * (m + n) → has free ≡ (λ k. ltb k (m + n)) → m + n ≤ room_of free → IsKept (record { movable = m; normal = n; counts = counts; marks = marks; words = words }) room free m n
+kept-new m n room counts words marks free few is len_marks roomy few_words bits bits_room =
     let none : (j : ℕ) → get_or counts j 0 ≡ 0 = λ j. rw is (zeros (m + n) j) in
     let len : length counts ≡ m + n = rw is (length-replicate {A = ℕ} (m + n) 0) in
     let s : FramesValue = frames_of record { movable = m; normal = n; counts = counts; marks = marks; words = words } in record {
@@ -139,6 +141,7 @@ kept-new m n room counts words marks free few is len_marks roomy few_words bits 
       marks = len_marks;
       words = roomy;
       few_words = few_words;
+      set_room = bits_room;
       set = λ j.
           ap (λ h. h j) bits
           ∙ (⊎_elim

@@ -1,4 +1,3 @@
-pub mod Bits
 pub mod FrameWords
 pub mod Free
 pub mod Keeps

@@ -2,9 +2,9 @@
 ghost use Rattle.std.specs.Prelude.{◌≡◌, ℕ, ◌+◌, ◌-◌, ◌<◌, ◌≤◌, ◌^◌, ◌⊎◌, true, if◌then◌else◌, length, slice_index, IfOk, IfSome, MatchOption};
 ghost use Rattle.gup_frames.specs.Frames.{frames_of, no_references, IsFrame, zone_of, free_frame, free_of, claimed, taken, with_references, without_references, with_mark, with_word, copied};
 
-use crate::bitmap::Bitmap;
 use crate::words;
 use gup_base::{Allowed, FrameNo, NoMemory, WordNo, Zone};
+use gup_bits::Bitmap;
 use std::alloc::Global;
 use std::marker::Model;
 
@@ -65,11 +65,12 @@ impl Frames {
         let many = (movable + normal) as usize;
         let counts = vec![in alloc; 0; many]?;
         let marks = vec![in alloc; false; many]?;
+        let free = Bitmap::below(alloc, many)?;
         let words = Vec::with_capacity(alloc, words::of_frames(many))?;
         Ok(Frames {
             movable,
             normal,
-            free: Bitmap::below(many),
+            free,
             free_movable: movable,
             free_normal: normal,
             counts,

@@ -1,7 +1,6 @@
 //! The frames of the machine: the references, the mark and the words of each, and which of them are free.
 #![tactic(auto)]
 
-mod bitmap;
 mod frames;
 mod words;
 

@@ -7,7 +7,7 @@ use Rattle.gup_base.specs.declared.entry.Entry.{Entry}
 use Rattle.gup_base.specs.declared.entry.Allowed.TheVariants.{Any, Only}
 use Rattle.gup_base.specs.declared.entry.Zone.TheVariants.{Movable, Normal}
 use Rattle.gup_frames.specs.Frames.{FramesValue, free_frame, taken, copied, with_mark, without_references}
-use Rattle.gup_frames.proofs.Free.{lowest_some}
+use Rattle.gup_bits.proofs.Lowest.{lowest_some}
 use Rattle.gup_fault.proofs.Puts.{put_here, put_away}
 use Rattle.gup_space.specs.Shows.{Change}
 use Rattle.gup_space.specs.Space.{SpaceValue, with_entry}

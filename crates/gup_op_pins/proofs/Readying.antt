@@ -10,7 +10,7 @@ use Rattle.gup_base.specs.declared.entry.Want.{Want}
 use Rattle.gup_base.specs.declared.entry.Zone.TheVariants.{Normal}
 use Rattle.gup_plain.specs.Put.{put}
 use Rattle.gup_frames.specs.Frames.{FramesValue, IsFrame, free_frame, taken, with_mark}
-use Rattle.gup_frames.proofs.Free.{lowest_some}
+use Rattle.gup_bits.proofs.Lowest.{lowest_some}
 use Rattle.gup_space.specs.Space.{SpaceValue}
 use Rattle.gup_space.specs.Shows.{Change, ShowsFrames, ShowsSpace}
 use Rattle.gup_space.proofs.ShowsLemmas.{events_lead}

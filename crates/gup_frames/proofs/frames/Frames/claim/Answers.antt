@@ -21,7 +21,7 @@ invariant_of-self c =
     let inside : c.args.place < c.self.inside.movable + c.self.inside.normal = rw (← c.self.view_is) at c.requires.there in
     let was : get_or c.self.inside.counts.items c.args.place 0 ≡ 0 = rw (← c.self.view_is) at c.requires.free in
     let both = taken_from _ _ _ _ _ c.args.place c.self.invariant inside 1 false c.self.inside.words.items (omega arith) was in
-    kept-changed _ _ _ _ _ c.args.place c.self.invariant inside c.remove.new.self c.self.inside.words.items _ 1 false _ _ (omega arith) c.self.invariant.few_words c.remove.ensures
+    kept-changed _ _ _ _ _ c.args.place c.self.invariant inside c.remove.new.self c.self.inside.words.items _ 1 false _ _ (omega arith) c.self.invariant.few_words c.remove.ensures.set c.remove.ensures.room
     (omega (arith, both.0, c.one_if.ensures))
     (omega (arith, both.1, c.one_if-2.ensures))
 

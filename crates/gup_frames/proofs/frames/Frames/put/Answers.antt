@@ -31,7 +31,7 @@ invariant_of-self-2 c =
     let inside : place < c.self.inside.movable + c.self.inside.normal = omega arith in
     let both = freed_to _ _ _ _ _ place c.self.invariant inside false c.self.inside.words.items some in
     rw none
-    (kept-changed _ _ _ _ _ place c.self.invariant inside c.insert.new.self c.self.inside.words.items _ 0 false _ _ (omega arith) c.self.invariant.few_words c.insert.ensures
+    (kept-changed _ _ _ _ _ place c.self.invariant inside c.insert.new.self c.self.inside.words.items _ 0 false _ _ (omega arith) c.self.invariant.few_words c.insert.ensures.set c.insert.ensures.room
     (omega (arith, both.0, c.one_if.ensures))
     (omega (arith, both.1, c.one_if-2.ensures)))
 

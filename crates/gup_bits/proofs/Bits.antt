@@ -1,14 +1,14 @@
 -- Sets of numbers as bits: a bit is set, cleared, found.
-use Rattle.std.proofs.Common.{◌≡◌, ◌≢◌, ℕ, zero, suc, ◌+◌, ◌-◌, ◌*◌, ◌/◌, ◌%◌, ◌^◌, ◌<◌, ◌≤◌, eqb, ltb, Bool, true, false, cond, List, length, get_or, set, Some, None, refl, ap, sym, ◌∙◌, ⊎_elim, arith, get_or-set_same, get_or-set_other, replicate, bit_and, bit_or, w64}
+use Rattle.std.proofs.Common.{◌≡◌, ◌≢◌, ℕ, ◌+◌, ◌-◌, ◌*◌, ◌/◌, ◌%◌, ◌^◌, ◌<◌, ◌≤◌, eqb, ltb, true, false, List, length, get_or, set, refl, ap, sym, ◌∙◌, ⊎_elim, arith, get_or-set_same, get_or-set_other, replicate, bit_and, bit_or, w64}
 use Rattle.std.specs.Int.{bit_at, bit_not, trailing_zeros}
 use Rattle.std.proofs.Math.Path.{fun_ext}
 use Rattle.std.proofs.lemmas.Bool.{cases_eq, cases_lt}
 use Rattle.std.proofs.lemmas.Bool.Decides.{nat_tests}
-use Rattle.std.proofs.lemmas.List.{get_or_past, get_or-replicate}
+use Rattle.std.proofs.lemmas.List.{get_or_past, get_or-replicate, length-replicate}
 use Rattle.std.proofs.lemmas.Nat.{shr-shr, shr_below, shr_le}
 use Rattle.std.proofs.lemmas.Nat.Bits.{bit_at_set_same, bit_at_set_other, bit_at_clear_same, bit_at_clear_other, bit_at-zero, bit_at-trailing_zeros, bit_at_above}
-use Rattle.gup_plain.specs.Put.{put, lowest}
-use Rattle.gup_frames.specs.Bits.{has}
+use Rattle.gup_plain.specs.Put.{put}
+use Rattle.gup_bits.specs.Bits.{has}
 
 -- a changed word: the bit of k in it becomes b, and the others stay
 has_changed_at : (words : List ℕ) (k word b : ℕ) → k / 64 < length words → bit_at word (k % 64) ≡ b → ((i : ℕ) → i < 64 → i ≢ k % 64 → bit_at word i ≡ bit_at (get_or words (k / 64) 0) i) → (j : ℕ) → has (set words (k / 64) word) j ≡ put k (eqb b 1) (has words) j
@@ -49,42 +49,20 @@ has-remove words k inside =
 nothing_below : (k : ℕ) → ltb k 0 ≡ false
 nothing_below k = grind (arith, nat_tests)
 
-below_none_at : (k : ℕ) → has (replicate 16 0) k ≡ ltb k 0
-below_none_at k =
-    let zero_word : get_or (replicate 16 0) (k / 64) 0 ≡ 0 =
-    ⊎_elim (λ (l : k / 64 < 16). get_or-replicate 16 (k / 64) 0 0 l) (λ (g : 16 ≤ k / 64). get_or_past (replicate 16 0) (k / 64) 0 g) (cases_lt (k / 64) 16) in
+below_none_at : (n k : ℕ) → has (replicate n 0) k ≡ ltb k 0
+below_none_at n k =
+    let zero_word : get_or (replicate n 0) (k / 64) 0 ≡ 0 =
+    ⊎_elim (λ (l : k / 64 < n). get_or-replicate n (k / 64) 0 0 l) (λ (g : n ≤ k / 64). let len : length (replicate {A = ℕ} n 0) ≡ n = length-replicate {A = ℕ} n 0 in get_or_past (replicate n 0) (k / 64) 0 (omega arith)) (cases_lt (k / 64) n) in
     ap (λ n. eqb (bit_at n (k % 64)) 1) zero_word ∙ ap (λ b. eqb b 1) (bit_at-zero (k % 64)) ∙ sym (nothing_below k)
 
-pub below_none : has (replicate 16 0) ≡ (λ k. ltb k 0)
-below_none = fun_ext below_none_at
+pub below_none : (n : ℕ) → has (replicate n 0) ≡ (λ k. ltb k 0)
+below_none n = fun_ext (below_none_at n)
 
 pub below_more : (n : ℕ) → put n true (λ k. ltb k n) ≡ (λ k. ltb k (n + 1))
 below_more n = fun_ext (λ k. at k)
   where
     at : (k : ℕ) → put n true (λ k. ltb k n) k ≡ ltb k (n + 1)
     at k = grind (arith, nat_tests)
-
--- the lowest number that passes a test
-pub lowest_is : (first n : ℕ) (test : ℕ → Bool) (k : ℕ) → first ≤ k → k < first + n → test k ≡ true → ((j : ℕ) → first ≤ j → j < k → test j ≡ false) → lowest first n test ≡ Some k
-lowest_is first zero test k above below is before = absurd (omega arith)
-lowest_is first (suc n) test k above below is before =
-    ⊎_elim
-    (λ (e : first ≡ k). rw e (rw is refl))
-    (λ (ne : first ≢ k).
-    rw (before first (omega arith) (omega arith)) (lowest_is (first + 1) n test k (omega arith) (omega arith) is (λ j h l. before j (omega arith) l)))
-    (cases_eq first k)
-
-pub lowest_none : (first n : ℕ) (test : ℕ → Bool) → ((j : ℕ) → first ≤ j → j < first + n → test j ≡ false) → lowest first n test ≡ None
-lowest_none first zero test none = refl
-lowest_none first (suc n) test none =
-    rw (none first (omega arith) (omega arith)) (lowest_none (first + 1) n test (λ j h l. none j (omega arith) (omega arith)))
-
--- two tests that agree on the n numbers
-pub lowest_same : (first n : ℕ) (p q : ℕ → Bool) → ((j : ℕ) → first ≤ j → j < first + n → p j ≡ q j) → lowest first n p ≡ lowest first n q
-lowest_same first zero p q same = refl
-lowest_same first (suc n) p q same =
-    ap (λ b. cond b (Some first) (lowest (first + 1) n p)) (same first (omega arith) (omega arith))
-    ∙ ap (λ r. cond (q first) (Some first) r) (lowest_same (first + 1) n p q (λ j h l. same j (omega arith) (omega arith)))
 
 -- ---- what is left of a word, from a number's bit on
 

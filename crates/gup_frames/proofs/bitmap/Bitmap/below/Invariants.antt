@@ -1,6 +1,0 @@
-use Rattle.std.proofs.Common.{◌≡◌, nat_lt}
-use Rattle.gup_frames.specs.Bits.{has}
-use Rattle.gup_frames.proofs.bitmap.Bitmap.below.Given as goal
-
-abbrev pub invariant-loop-k : goal.invariant-loop-k
-invariant-loop-k l = has l.set ≡ (λ k. nat_lt k l.k)
