@@ -1,9 +1,9 @@
 //! Tests of the command `check`.
 use crate::tests::{FIRST, expect, owned};
-use crate::top::gup;
 use gup_io::{MemSink, MemSource, NoPace, SureSource};
 use gup_spec_grammar::{Reason, ScriptFault};
 use gup_test_cases::EXAMPLES;
+use gup_top::gup;
 use std::alloc::Global;
 use std::marker::Sync;
 use std::process::Abort;

@@ -1,7 +1,5 @@
 //! Tests of the command `live`.
-use crate::serial::Report;
 use crate::tests::owned;
-use crate::top::gup;
 use gup_base::ActorNo;
 use gup_io::{MemSink, MemSource, NoPace, Pace, SureSource};
 use gup_lines::{name_of, push_text};
@@ -9,6 +7,7 @@ use gup_make::make_text;
 use gup_read::read_script;
 use gup_script::Script;
 use gup_spec_grammar::{Reason, ScriptFault};
+use gup_top::{Report, gup};
 use gup_trace::push_journal;
 use std::alloc::Global;
 use std::marker::Sync;

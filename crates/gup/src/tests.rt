@@ -1,10 +1,9 @@
 ghost use Rattle.std.specs.Prelude.{None};
 
-use crate::serial::Report;
-use crate::top::gup;
 use gup_io::{Failed, MemSink, MemSource, NoPace, Sink, Source, SureSource};
 use gup_spec_grammar::{Reason, ScriptFault};
 use gup_test_cases::{EXAMPLES, RUNS};
+use gup_top::{Report, gup};
 use std::alloc::{AllocError, Global};
 use std::marker::Sync;
 use std::process::Abort;
