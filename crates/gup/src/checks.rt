@@ -1,7 +1,7 @@
 //! Tests of the command `check`.
-use crate::tests::{FIRST, expect, owned};
-use crate::top::gup;
-use gup_io::{MemSink, MemSource, NoPace, SureSource};
+use crate::calls::ran;
+use crate::tests::{FIRST, expect, expect_with_faults};
+use gup_io::NoPace;
 use gup_spec_grammar::{Reason, ScriptFault};
 use gup_test_cases::EXAMPLES;
 use std::alloc::Global;
@@ -160,6 +160,20 @@ fn verdicts(rt: HostRuntime) -> Result<(), Fail> {
     Ok(())
 }
 
+/// The notes of the trace of this script are accepted.
+fn expect_checked(
+    rt: &(impl Abort + Threads + Wait + Sync),
+    alloc: Global,
+    script: &str,
+    trace: &[u8],
+    verdict: &str,
+) -> Result<(), Fail> {
+    let (report, sink) = ran(rt, alloc, &["check"], trace, 99, &NoPace)?;
+    assert_eq!(rt; report.status, 0, "{script}");
+    assert_eq!(rt; sink.bytes(), verdict.as_bytes(), "{script}");
+    Ok(())
+}
+
 /// The trace of each example is accepted: wholly where its run has finished, and openly where actors are stuck.
 fn expect_accepted(
     rt: &(impl Abort + Threads + Wait + Sync),
@@ -167,19 +181,11 @@ fn expect_accepted(
     script: &str,
     status: u8,
 ) -> Result<(), Fail> {
-    let words = owned(alloc, &["trace"])?;
-    let mut source = SureSource::new(script.as_bytes().to_vec(alloc)?);
-    let mut sink = MemSink::with_room(alloc, 1_000_000, Vec::new(alloc))?;
-    let report = gup(rt, alloc, words.as_slice(), &mut source, &mut sink, &NoPace);
+    let input = script.as_bytes();
+    let (report, sink) = ran(rt, alloc, &["trace"], input, 1_000_000, &NoPace)?;
     assert_eq!(rt; report.status, status, "{script}");
-    let words = owned(alloc, &["check"])?;
-    let mut source = SureSource::new(sink.bytes().to_vec(alloc)?);
-    let mut sink = MemSink::with_room(alloc, 99, Vec::new(alloc))?;
-    let report = gup(rt, alloc, words.as_slice(), &mut source, &mut sink, &NoPace);
-    assert_eq!(rt; report.status, 0, "{script}");
     let verdict = if status == 0 { "yes\n" } else { "open\n" };
-    assert_eq!(rt; sink.bytes(), verdict.as_bytes(), "{script}");
-    Ok(())
+    expect_checked(rt, alloc, script, sink.bytes(), verdict)
 }
 
 #[test]
@@ -187,6 +193,20 @@ fn traces_of_examples(rt: HostRuntime) -> Result<(), Fail> {
     for (script, status, _text) in EXAMPLES {
         expect_accepted(&rt, rt.alloc(), script, status)?;
     }
+    Ok(())
+}
+
+/// What is behind the first script makes no trace of it.
+fn expect_no_trace(
+    rt: &(impl Abort + Threads + Wait + Sync),
+    alloc: Global,
+    behind: &str,
+    fault: ScriptFault,
+    text: &str,
+) -> Result<(), Fail> {
+    let input = format!(in alloc; "{FIRST}{behind}")?;
+    let report = expect(rt, alloc, &["check"], input.as_str(), 3, text)?;
+    assert_eq!(rt; report.refusal, Some(fault));
     Ok(())
 }
 
@@ -209,9 +229,7 @@ fn refused_traces(rt: HostRuntime) -> Result<(), Fail> {
         ),
         ("on t\njournal\n", 11, Reason::Shape, "line 11: shape\n"),
     ] {
-        let text_before = format!(in rt.alloc(); "{FIRST}{behind}")?;
-        let report = expect(&rt, rt.alloc(), &["check"], text_before.as_str(), 3, text)?;
-        assert_eq!(rt; report.refusal, Some(ScriptFault { line, reason }));
+        expect_no_trace(&rt, rt.alloc(), behind, ScriptFault { line, reason }, text)?;
     }
     Ok(())
 }
@@ -219,22 +237,14 @@ fn refused_traces(rt: HostRuntime) -> Result<(), Fail> {
 /// The status of a verdict gives way to that of a write that failed, and a read that fails leaves nothing written.
 #[test]
 fn checks_and_faults(rt: HostRuntime) -> Result<(), Fail> {
-    let words = owned(rt.alloc(), &["check"])?;
     let trace = format!(in rt.alloc(); "{FIRST}journal\n1 t 2 silent\n1 t 1 done ok\n")?;
-    for (read, room, status, text) in [(9, 99, 8, "no 2\n"), (9, 3, 6, "no "), (1, 99, 5, "")] {
-        let reads = [read].to_vec(rt.alloc())?;
-        let mut source = MemSource::new(trace.as_bytes().to_vec(rt.alloc())?, reads);
-        let mut sink = MemSink::with_room(rt.alloc(), room, Vec::new(rt.alloc()))?;
-        let report = gup(
-            &rt,
-            rt.alloc(),
-            words.as_slice(),
-            &mut source,
-            &mut sink,
-            &NoPace,
-        );
-        assert_eq!(rt; report.status, status);
-        assert_eq!(rt; sink.bytes(), text.as_bytes());
+    let input = trace.as_str();
+    for (faults, status, text) in [
+        ((9, 0, 99), 8, "no 2\n"),
+        ((9, 0, 3), 6, "no "),
+        ((1, 0, 99), 5, ""),
+    ] {
+        expect_with_faults(&rt, rt.alloc(), &["check"], input, faults, status, text)?;
     }
     Ok(())
 }

@@ -1,14 +1,14 @@
 //! Tests of the command `live`.
-use crate::serial::Report;
-use crate::tests::owned;
-use crate::top::gup;
+use crate::calls::ran;
+use crate::tests::expect_with_faults;
 use gup_base::ActorNo;
-use gup_io::{MemSink, MemSource, NoPace, Pace, SureSource};
+use gup_io::{NoPace, Pace};
 use gup_lines::{name_of, push_text};
 use gup_make::make_text;
 use gup_read::read_script;
 use gup_script::Script;
 use gup_spec_grammar::{Reason, ScriptFault};
+use gup_top::Report;
 use gup_trace::push_journal;
 use std::alloc::Global;
 use std::marker::Sync;
@@ -109,22 +109,6 @@ fn script_of(alloc: Global, operations: &str) -> Result<String, Fail> {
     Ok(format!(in alloc; "{HEAD}{operations}")?)
 }
 
-/// Runs the program on a source that never fails, and a sink with this room.
-fn ran<R: Threads + Wait + Sync, P: Pace + Sync>(
-    rt: &R,
-    alloc: Global,
-    word: &str,
-    input: &[u8],
-    room: usize,
-    pace: &P,
-) -> Result<(Report, MemSink), Fail> {
-    let words = owned(alloc, &[word])?;
-    let mut source = SureSource::new(input.to_vec(alloc)?);
-    let mut sink = MemSink::with_room(alloc, room, Vec::new(alloc))?;
-    let report = gup(rt, alloc, words.as_slice(), &mut source, &mut sink, pace);
-    Ok((report, sink))
-}
-
 /// Runs the script by `live`, and wants this text.
 fn expect_live<R: Abort + Threads + Wait + Sync, P: Pace + Sync>(
     rt: &R,
@@ -134,7 +118,7 @@ fn expect_live<R: Abort + Threads + Wait + Sync, P: Pace + Sync>(
     status: u8,
     text: &str,
 ) -> Result<Report, Fail> {
-    let (report, sink) = ran(rt, alloc, "live", script.as_bytes(), 20_000, pace)?;
+    let (report, sink) = ran(rt, alloc, &["live"], script.as_bytes(), 20_000, pace)?;
     assert_eq!(rt; report.status, status, "{script}");
     assert_eq!(rt; sink.bytes(), text.as_bytes(), "{script}");
     assert!(rt; report.journal.notes().is_empty());
@@ -229,7 +213,7 @@ fn expect_text<R: Abort + Threads + Wait + Sync>(
     input: &[u8],
     text: &[u8],
 ) -> Result<(), Fail> {
-    let (report, sink) = ran(rt, alloc, word, input, 2_000_000, &NoPace)?;
+    let (report, sink) = ran(rt, alloc, &[word], input, 2_000_000, &NoPace)?;
     assert_eq!(rt; report.status, 0);
     assert_eq!(rt; sink.bytes(), text);
     Ok(())
@@ -243,7 +227,7 @@ fn expect_again<R: Abort + Threads + Wait + Sync>(
     text: &str,
     answers: usize,
 ) -> Result<(), Fail> {
-    let (report, _sink) = ran(rt, alloc, "live", text.as_bytes(), 20_000, &NoPace)?;
+    let (report, _sink) = ran(rt, alloc, &["live"], text.as_bytes(), 20_000, &NoPace)?;
     let (Some(live), Ok(script)) = (report.live, read_script(alloc, text.as_bytes())) else {
         panic!(rt; "{text}");
     };
@@ -273,19 +257,13 @@ fn an_order_can_be_run_again(rt: HostRuntime) -> Result<(), Fail> {
 fn expect_faults<R: Abort + Threads + Wait + Sync>(
     rt: &R,
     alloc: Global,
-    read: u32,
-    write: u32,
-    room: usize,
+    faults: (u32, u32, usize),
     status: u8,
     text: &str,
 ) -> Result<(), Fail> {
     let script = script_of(alloc, APART.0)?;
-    let words = owned(alloc, &["live"])?;
-    let mut source = MemSource::new(script.as_bytes().to_vec(alloc)?, [read].to_vec(alloc)?);
-    let mut sink = MemSink::with_room(alloc, room, [write].to_vec(alloc)?)?;
-    let report = gup(rt, alloc, words.as_slice(), &mut source, &mut sink, &NoPace);
-    assert_eq!(rt; report.status, status);
-    assert_eq!(rt; sink.bytes(), text.as_bytes());
+    let input = script.as_str();
+    let report = expect_with_faults(rt, alloc, &["live"], input, faults, status, text)?;
     assert_eq!(rt; report.live.is_some(), status != 5);
     Ok(())
 }
@@ -293,10 +271,10 @@ fn expect_faults<R: Abort + Threads + Wait + Sync>(
 /// Sources and sinks that fail, and a text that is no script: as of `run`.
 #[test]
 fn faults_of_live(rt: HostRuntime) -> Result<(), Fail> {
-    expect_faults(&rt, rt.alloc(), 1, 0, 99, 5, "")?;
-    expect_faults(&rt, rt.alloc(), 0, 0, 99, 0, APART.1)?;
-    expect_faults(&rt, rt.alloc(), 0, 1, 99, 6, "")?;
-    expect_faults(&rt, rt.alloc(), 0, 0, 7, 6, "t 1 ok\n")?;
+    expect_faults(&rt, rt.alloc(), (1, 0, 99), 5, "")?;
+    expect_faults(&rt, rt.alloc(), (0, 0, 99), 0, APART.1)?;
+    expect_faults(&rt, rt.alloc(), (0, 1, 99), 6, "")?;
+    expect_faults(&rt, rt.alloc(), (0, 0, 7), 6, "t 1 ok\n")?;
     let report = expect_live(&rt, rt.alloc(), "gup 1\n", &NoPace, 3, "line 2: short\n")?;
     let (line, reason) = (2, Reason::Short);
     assert_eq!(&rt; report.refusal, Some(ScriptFault { line, reason }));

@@ -5,23 +5,19 @@ ghost use Rattle.std.specs.Prelude.{◌≡◌};
 ghost use Rattle.std.specs.Process.{exit_status};
 
 #[cfg(test)]
+mod calls;
+#[cfg(test)]
 mod checks;
-mod command;
-mod live;
 #[cfg(test)]
 mod lives;
-mod serial;
 #[cfg(test)]
 mod tests;
-mod text;
-mod top;
 
 use gup_io::{FromStd, NoPace, ToStd};
-use serial::Report;
+use gup_top::{Report, gup};
 use std::env::Env;
 use std::process::ExitCode;
 use std::{env, io};
-use top::gup;
 
 /// The words after the program's name. Where one of them isn't UTF-8 they are no command, as where there are none.
 fn words(rt: &(impl Env + AllocGlobal)) -> io::Result<Vec<String>> {

@@ -1,11 +1,11 @@
 ghost use Rattle.std.specs.Prelude.{None};
 
-use crate::serial::Report;
-use crate::top::gup;
-use gup_io::{Failed, MemSink, MemSource, NoPace, Sink, Source, SureSource};
+use crate::calls::{called, ran, ran_with_faults};
+use gup_io::{Failed, NoPace, Sink, Source};
 use gup_spec_grammar::{Reason, ScriptFault};
 use gup_test_cases::{EXAMPLES, RUNS};
-use std::alloc::{AllocError, Global};
+use gup_top::Report;
+use std::alloc::Global;
 use std::marker::Sync;
 use std::process::Abort;
 use std::sync::Wait;
@@ -161,14 +161,6 @@ impl Sink for ByteSink {
     }
 }
 
-pub(crate) fn owned(alloc: Global, words: &[&str]) -> Result<Vec<String>, AllocError> {
-    let mut owned = Vec::new(alloc);
-    for word in words {
-        owned.push(String::from_str(alloc, word)?)?;
-    }
-    Ok(owned)
-}
-
 /// The program on a source and a sink that never fail.
 pub(crate) fn expect(
     rt: &(impl Abort + Threads + Wait + Sync),
@@ -178,10 +170,7 @@ pub(crate) fn expect(
     status: u8,
     text: &str,
 ) -> Result<Report, Fail> {
-    let words = owned(alloc, words)?;
-    let mut source = SureSource::new(script.as_bytes().to_vec(alloc)?);
-    let mut sink = MemSink::with_room(alloc, 20_000, Vec::new(alloc))?;
-    let report = gup(rt, alloc, words.as_slice(), &mut source, &mut sink, &NoPace);
+    let (report, sink) = ran(rt, alloc, words, script.as_bytes(), 20_000, &NoPace)?;
     assert_eq!(rt; report.status, status, "{script}");
     assert_eq!(rt; sink.bytes(), text.as_bytes(), "{script}");
     Ok(report)
@@ -215,6 +204,17 @@ fn traces(rt: HostRuntime) -> Result<(), Fail> {
     Ok(())
 }
 
+fn expect_usage(
+    rt: &(impl Abort + Threads + Wait + Sync),
+    alloc: Global,
+    words: &[&str],
+) -> Result<(), Fail> {
+    let report = expect(rt, alloc, words, FIRST, 2, "usage: gup COMMAND\n")?;
+    assert!(rt; report.journal.notes().is_empty());
+    assert_eq!(rt; report.refusal, None);
+    Ok(())
+}
+
 #[test]
 fn words_that_are_no_command(rt: HostRuntime) -> Result<(), Fail> {
     let words: [&[&str]; 16] = [
@@ -236,18 +236,27 @@ fn words_that_are_no_command(rt: HostRuntime) -> Result<(), Fail> {
         &[""],
     ];
     for words in words {
-        let report = expect(&rt, rt.alloc(), words, FIRST, 2, "usage: gup COMMAND\n")?;
-        assert!(rt; report.journal.notes().is_empty());
-        assert_eq!(rt; report.refusal, None);
+        expect_usage(&rt, rt.alloc(), words)?;
     }
+    Ok(())
+}
+
+fn expect_run(
+    rt: &(impl Abort + Threads + Wait + Sync),
+    alloc: Global,
+    script: &str,
+    status: u8,
+    text: &str,
+) -> Result<(), Fail> {
+    let report = expect(rt, alloc, &["run"], script, status, text)?;
+    assert_eq!(rt; report.refusal, None, "{script}");
     Ok(())
 }
 
 #[test]
 fn scripts(rt: HostRuntime) -> Result<(), Fail> {
     for (script, status, text) in RUNS {
-        let report = expect(&rt, rt.alloc(), &["run"], script, status, text)?;
-        assert_eq!(rt; report.refusal, None, "{script}");
+        expect_run(&rt, rt.alloc(), script, status, text)?;
     }
     Ok(())
 }
@@ -255,9 +264,20 @@ fn scripts(rt: HostRuntime) -> Result<(), Fail> {
 #[test]
 fn examples(rt: HostRuntime) -> Result<(), Fail> {
     for (script, status, text) in EXAMPLES {
-        let report = expect(&rt, rt.alloc(), &["run"], script, status, text)?;
-        assert_eq!(rt; report.refusal, None, "{script}");
+        expect_run(&rt, rt.alloc(), script, status, text)?;
     }
+    Ok(())
+}
+
+fn expect_made(
+    rt: &(impl Abort + Threads + Wait + Sync),
+    alloc: Global,
+    n: &str,
+    text: &str,
+) -> Result<(), Fail> {
+    let report = expect(rt, alloc, &["make", n], FIRST, 0, text)?;
+    assert!(rt; report.journal.notes().is_empty());
+    assert_eq!(rt; report.refusal, None);
     Ok(())
 }
 
@@ -266,46 +286,55 @@ fn examples(rt: HostRuntime) -> Result<(), Fail> {
 fn made_scripts(rt: HostRuntime) -> Result<(), Fail> {
     for (n, text) in MADE {
         for _ in 0..2 {
-            let report = expect(&rt, rt.alloc(), &["make", n], FIRST, 0, text)?;
-            assert!(rt; report.journal.notes().is_empty());
-            assert_eq!(rt; report.refusal, None);
+            expect_made(&rt, rt.alloc(), n, text)?;
         }
     }
     Ok(())
 }
 
+/// The status of a run over a source and a sink in memory whose calls of these numbers fail, and that what is taken is this text.
+pub(crate) fn expect_with_faults(
+    rt: &(impl Abort + Threads + Wait + Sync),
+    alloc: Global,
+    words: &[&str],
+    input: &str,
+    (read, write, room): (u32, u32, usize),
+    status: u8,
+    text: &str,
+) -> Result<Report, Fail> {
+    let (report, sink) = ran_with_faults(rt, alloc, words, input.as_bytes(), read, write, room)?;
+    assert_eq!(rt; report.status, status, "{read} {write} {room}");
+    assert_eq!(rt; sink.bytes(), text.as_bytes(), "{read} {write} {room}");
+    Ok(report)
+}
+
 /// No read is made for a made script, and a write that fails leaves the beginning of its summary.
 #[test]
 fn made_scripts_and_faults(rt: HostRuntime) -> Result<(), Fail> {
-    let words = owned(rt.alloc(), &["make", "1"])?;
     for (room, status, text) in [(99, 0, MADE[1].1), (11, 6, "answers 166")] {
-        let reads = [1].to_vec(rt.alloc())?;
-        let mut source = MemSource::new(FIRST.as_bytes().to_vec(rt.alloc())?, reads);
-        let mut sink = MemSink::with_room(rt.alloc(), room, Vec::new(rt.alloc()))?;
-        let report = gup(
-            &rt,
-            rt.alloc(),
-            words.as_slice(),
-            &mut source,
-            &mut sink,
-            &NoPace,
-        );
-        assert_eq!(rt; report.status, status);
-        assert_eq!(rt; sink.bytes(), text.as_bytes());
+        let words = ["make", "1"];
+        expect_with_faults(&rt, rt.alloc(), &words, FIRST, (1, 0, room), status, text)?;
     }
+    Ok(())
+}
+
+fn expect_refusal(
+    rt: &(impl Abort + Threads + Wait + Sync),
+    alloc: Global,
+    script: &str,
+    fault: ScriptFault,
+    text: &str,
+) -> Result<(), Fail> {
+    let report = expect(rt, alloc, &["run"], script, 3, text)?;
+    assert_eq!(rt; report.refusal, Some(fault), "{script}");
+    assert!(rt; report.journal.notes().is_empty());
     Ok(())
 }
 
 #[test]
 fn refusals(rt: HostRuntime) -> Result<(), Fail> {
     for (script, line, reason, text) in REFUSALS {
-        let report = expect(&rt, rt.alloc(), &["run"], script, 3, text)?;
-        assert_eq!(rt;
-            report.refusal,
-            Some(ScriptFault { line, reason }),
-            "{script}"
-        );
-        assert!(rt; report.journal.notes().is_empty());
+        expect_refusal(&rt, rt.alloc(), script, ScriptFault { line, reason }, text)?;
     }
     Ok(())
 }
@@ -322,33 +351,29 @@ fn many_operations(rt: HostRuntime) -> Result<(), Fail> {
     Ok(())
 }
 
-/// The status of the first run over sources and sinks in memory whose calls fail where the lists say, and that what
-/// is taken is this text.
+/// The first run, where calls of these numbers fail.
+fn expect_first_with_faults(
+    rt: &(impl Abort + Threads + Wait + Sync),
+    alloc: Global,
+    faults: (u32, u32, usize),
+    status: u8,
+    text: &str,
+) -> Result<(), Fail> {
+    let report = expect_with_faults(rt, alloc, &["run"], FIRST, faults, status, text)?;
+    assert_eq!(rt; report.refusal, None);
+    Ok(())
+}
+
 #[test]
 fn faults_in_memory(rt: HostRuntime) -> Result<(), Fail> {
-    let words = owned(rt.alloc(), &["run"])?;
-    for (read, write, room, status, text) in [
-        (1, 0, 99, 5, ""),
-        (2, 0, 99, 5, ""),
-        (3, 0, 99, 0, FIRST_TEXT),
-        (0, 1, 99, 6, ""),
-        (0, 0, 7, 6, "t 1 ok\n"),
+    for (faults, status, text) in [
+        ((1, 0, 99), 5, ""),
+        ((2, 0, 99), 5, ""),
+        ((3, 0, 99), 0, FIRST_TEXT),
+        ((0, 1, 99), 6, ""),
+        ((0, 0, 7), 6, "t 1 ok\n"),
     ] {
-        let reads = [read].to_vec(rt.alloc())?;
-        let writes = [write].to_vec(rt.alloc())?;
-        let mut source = MemSource::new(FIRST.as_bytes().to_vec(rt.alloc())?, reads);
-        let mut sink = MemSink::with_room(rt.alloc(), room, writes)?;
-        let report = gup(
-            &rt,
-            rt.alloc(),
-            words.as_slice(),
-            &mut source,
-            &mut sink,
-            &NoPace,
-        );
-        assert_eq!(rt; report.status, status, "{read} {write} {room}");
-        assert_eq!(rt; sink.bytes(), text.as_bytes(), "{read} {write} {room}");
-        assert_eq!(rt; report.refusal, None);
+        expect_first_with_faults(&rt, rt.alloc(), faults, status, text)?;
     }
     Ok(())
 }
@@ -362,7 +387,6 @@ fn expect_faults(
     status: u8,
     text: &[u8],
 ) -> Result<(), Fail> {
-    let words = owned(alloc, &["run"])?;
     let mut source = ByteSource {
         bytes: FIRST.as_bytes().to_vec(alloc)?,
         at: 0,
@@ -378,7 +402,7 @@ fn expect_faults(
         faults: 0,
         faulted: false,
     };
-    let report = gup(rt, alloc, words.as_slice(), &mut source, &mut sink, &NoPace);
+    let report = called(rt, alloc, &["run"], &mut source, &mut sink, &NoPace)?;
     assert_eq!(rt; report.status, status, "read {read}, write {write}");
     assert_eq!(rt; sink.bytes.as_slice(), text, "read {read}, write {write}");
     Ok(())
@@ -401,18 +425,8 @@ fn each_read_and_each_write_fails(rt: HostRuntime) -> Result<(), Fail> {
 /// The same of a run that is stuck: its status gives way to that of a write that failed.
 #[test]
 fn a_stuck_run_that_is_not_written(rt: HostRuntime) -> Result<(), Fail> {
-    let words = owned(rt.alloc(), &["run"])?;
     let stuck = "gup 1\nframes 8 8 64\nchild c\nthread u c\non u exit\n";
-    let mut source = SureSource::new(stuck.as_bytes().to_vec(rt.alloc())?);
-    let mut sink = MemSink::with_room(rt.alloc(), 5, Vec::new(rt.alloc()))?;
-    let report = gup(
-        &rt,
-        rt.alloc(),
-        words.as_slice(),
-        &mut source,
-        &mut sink,
-        &NoPace,
-    );
+    let (report, sink) = ran(&rt, rt.alloc(), &["run"], stuck.as_bytes(), 5, &NoPace)?;
     assert_eq!(rt; report.status, 6);
     assert_eq!(rt; sink.bytes(), "stuck".as_bytes());
     Ok(())
