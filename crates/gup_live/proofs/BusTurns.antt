@@ -10,7 +10,7 @@ use Rattle.gup_spec_orders.specs.Orders.{Goes, turns_in, journal_in}
 use Rattle.gup_spec_turns.specs.Cost.{cost}
 use Rattle.gup_spec_turns.specs.Run.{RunState, run_start, run_after, turned, core_turn_in, can_go}
 use Rattle.gup_law_turns.specs.Standing.{IsStanding}
-use Rattle.gup_core.specs.Machine.{MachineValue, Shows, TakesTurn, IsNew, counted}
+use Rattle.gup_core.specs.Machine.{MachineValue, Shows, TakesTurn, counted}
 use Rattle.gup_core.specs.Going.{Advances}
 use Rattle.gup_core.specs.declared.outcome.Advanced.{Advanced}
 use Rattle.gup_core.specs.declared.outcome.Advanced.TheVariants.{Moved}
@@ -70,19 +70,7 @@ has_costs script valid spent few stand =
       stand = λ order. stand script order valid;
     }
 
-pub bus_first : (script : ScriptValue) (m : MachineValue) → IsScript script → IsNew script m → IsBus script m [] []
-bus_first script m valid new =
-    record {
-      valid = valid;
-      same = new.script;
-      goes = tt;
-      shown = new.shown;
-      told = refl;
-      count = new.turns;
-      cheap = omega arith;
-    }
-
-pub bus_turn : (script : ScriptValue) (m n : MachineValue) (order : List ℕ) (was told : List NoteValue) (a : ℕ) → HasCosts script → a < length script.actors → can_go script (turned script (run_start script) order) a ≡ true → n.script ≡ m.script → TakesTurn m n a (turned script (run_start script) order) told → IsBus script m order was → IsBus script n (order ++ a ∷ []) (was ++ told)
+bus_turn : (script : ScriptValue) (m n : MachineValue) (order : List ℕ) (was told : List NoteValue) (a : ℕ) → HasCosts script → a < length script.actors → can_go script (turned script (run_start script) order) a ≡ true → n.script ≡ m.script → TakesTurn m n a (turned script (run_start script) order) told → IsBus script m order was → IsBus script n (order ++ a ∷ []) (was ++ told)
 bus_turn script m n order was told a costs below goes kept taken bus =
     let start : RunState = run_start script in
     let r : RunState = turned script start order in
@@ -115,7 +103,7 @@ bus_turn script m n order was told a costs below goes kept taken bus =
     }
 
 -- the actor could go
-pub went : (script : ScriptValue) (m n : MachineValue) (was is : JournalValue) (order : List ℕ) (a : ℕ) (advanced : Advanced) (woken : Woken) → advanced ≡ Moved woken → Advances m n was is a advanced → IsBus script m order was.notes → can_go script (turned script (run_start script) order) a ≡ true
+went : (script : ScriptValue) (m n : MachineValue) (was is : JournalValue) (order : List ℕ) (a : ℕ) (advanced : Advanced) (woken : Woken) → advanced ≡ Moved woken → Advances m n was is a advanced → IsBus script m order was.notes → can_go script (turned script (run_start script) order) a ≡ true
 went script m n was is order a advanced woken moved advances bus =
     let r : RunState = turned script (run_start script) order in
     let goes = (subst (λ (x : Advanced). Advances m n was is a x) moved advances).0 r bus.shown in

@@ -21,4 +21,4 @@ Steps script old new actor Moved = HasGone script old new actor × (ends_in_answ
 Steps script old new actor Answered = HasGone script old new actor × (ends_in_answer new.notes ≡ true)
 Steps script old new actor Waits = IsSome (waiting_in script (state_of script old) actor) × (new ≡ old)
 Steps script old new actor Finished = (has_finished script actor ((state_of script old).places actor) ≡ true) × (new ≡ old)
-Steps script old new actor NoRoom = (new.order ≡ old.order) × (new.no_room ≡ true)
+Steps script old new actor NoRoom = new ≡ record old { no_room = true }

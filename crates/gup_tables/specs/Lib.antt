@@ -1,0 +1,4 @@
+pub mod Kept
+pub mod Pool
+pub mod Rows
+pub mod Tree
