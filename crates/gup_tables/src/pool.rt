@@ -58,6 +58,14 @@ impl Pool {
         self.free
     }
 
+    /// Whether the table is free. One that isn't the pool's is not.
+    #[inline]
+    pub fn is_free(&self, table: TableNo) -> bool
+        ensures { result ≡ (pool_of self.now).free table }
+    {
+        self.set.contains(table.get() as usize)
+    }
+
     /// Takes the lowest free table out (of Linux's `pagetable_alloc`; that it is the lowest is this project's own). `None`
     /// exactly where none is free, and nothing changes then.
     pub fn take(&mut self) -> Option<Table>

@@ -68,6 +68,14 @@ impl Rows {
         self.numbers.len() as u32
     }
 
+    /// How many there may be.
+    #[inline]
+    pub(crate) fn room(&self) -> u32
+        ensures { result ≡ self.now.room }
+    {
+        self.room
+    }
+
     /// A law: so many tables stand somewhere.
     pub(crate) fn is_counted(&self)
         ensures { placed_tables (place_in self.now) ≡ length self.now.numbers }

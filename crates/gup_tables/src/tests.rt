@@ -1,4 +1,4 @@
-ghost use Rattle.std.specs.Prelude.{◌≡◌, ◌<◌, ◌≤◌, true, false, IfOk};
+ghost use Rattle.std.specs.Prelude.{◌≡◌, ◌<◌, true, false, IfOk};
 ghost use Rattle.gup_tables.specs.Pool.{pool_of, with_free};
 ghost use Rattle.gup_tables.specs.Tree.{tree_of};
 

@@ -303,6 +303,14 @@ impl Tree {
         self.rows.len()
     }
 
+    /// How many tables it may have.
+    #[inline]
+    pub fn room(&self) -> u32
+        ensures { result ≡ (tree_of self.now).room }
+    {
+        self.rows.room()
+    }
+
     /// Word `i` of a table of the tree, of the 512 from 0 on.
     #[inline]
     pub fn word_at(&self, table: TableNo, i: u16) -> u64

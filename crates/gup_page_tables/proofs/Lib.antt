@@ -1,0 +1,5 @@
+pub mod Counts
+pub mod Reclaimed
+pub mod Reclaims
+pub mod Taken
+pub mod TakenOut

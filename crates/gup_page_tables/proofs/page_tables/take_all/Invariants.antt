@@ -1,0 +1,17 @@
+use Rattle.std.proofs.Common.{◌≡◌, ◌+◌, ◌-◌, ◌≤◌}
+use Rattle.gup_tables.specs.Pool.{pool_of, free_tables}
+use Rattle.gup_tables.specs.Tree.{tree_of, lacks}
+use Rattle.gup_page_tables.specs.PageTables.{some_of, all_of, IsOf, grows}
+use Rattle.gup_page_tables.specs.Kept.{IsKept}
+use Rattle.gup_page_tables.proofs.page_tables.take_all.Given as goal
+
+-- what comes of the tables that the page still lacks is what comes of all that it lacked
+abbrev pub invariant-loop-k : goal.invariant-loop-k
+invariant-loop-k l = record {
+  left : lacks (tree_of l.tree) l.page + l.k ≡ l.k-end;
+  enough : l.k-end ≤ free_tables (pool_of l.pool) + l.k;
+  grown : grows l.page (l.k-end - l.k) (all_of l.tree l.limbo (pool_of l.pool)) ≡ grows l.page l.k-end (all_of l.initial.tree l.limbo (pool_of l.initial.pool));
+  entries : (tree_of l.tree).entry ≡ (tree_of l.initial.tree).entry;
+  own : IsOf (all_of l.tree l.limbo (pool_of l.pool));
+  kept : IsKept (some_of l.tree l.limbo);
+}

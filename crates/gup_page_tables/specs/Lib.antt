@@ -1,0 +1,2 @@
+pub mod PageTables
+pub mod Kept
