@@ -2,8 +2,7 @@
 use Rattle.std.proofs.Common.{◌≡◌, ◌≢◌, ℕ, ◌+◌, ◌<◌, ◌==◌, ◌||◌, nat_lt, Bool, true, false, cond, List, [], ◌∷◌, ◌++◌, length, length-append, Option, Some, None, is_some, refl, ap, sym, ◌∙◌, ⊎_elim, arith}
 use Rattle.std.proofs.lemmas.Bool.{cases_eq}
 use Rattle.std.proofs.lemmas.Bool.Decides.{nat_tests}
-use Rattle.gup_tables.specs.Rows.{table_numbers, placed_tables}
-use Rattle.gup_tables.specs.Tree.{TreeValue, table_at, on_path, lacks, is_empty, if_empty, detachable}
+use Rattle.gup_spec_tables.specs.Tables.{table_numbers, placed_tables, TreeValue, table_at, on_path, lacks, is_empty, if_empty, detachable}
 use Rattle.gup_tables.proofs.Places.{at_some}
 use Rattle.gup_page_tables.specs.PageTables.{TablesValue, has_table, is_among, retires}
 use Rattle.gup_page_tables.specs.Kept.{AreApart, IsKept}

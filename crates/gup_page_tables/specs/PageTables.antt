@@ -4,7 +4,8 @@ use Rattle.gup_limbo.specs.Limbo.{LimboValue, no_limbo, with_retired}
 use Rattle.gup_plain.specs.Put.{lowest}
 use Rattle.gup_tables.specs.Pool.{PoolValue, with_free}
 use Rattle.gup_tables.specs.Rows.{RowLists}
-use Rattle.gup_tables.specs.Tree.{TreeValue, tree_of, no_tree, with_table, without_table, detachable}
+use Rattle.gup_spec_tables.specs.Tables.{TreeValue, no_tree, with_table, without_table, detachable}
+use Rattle.gup_tables.specs.Tree.{tree_of}
 
 -- the tree of a process, and the numbers of the tables that were taken out of it, with its walks
 pub record TablesValue : Type 0 where

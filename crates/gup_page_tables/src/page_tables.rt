@@ -4,7 +4,8 @@ ghost use Rattle.std.specs.VecDeque.Iter.{deque_iter_rest};
 ghost use Rattle.gup_limbo.specs.Limbo.{LimboValue};
 ghost use Rattle.gup_maps.specs.Table.{IsNextPage, IsLastPage};
 ghost use Rattle.gup_tables.specs.Pool.{pool_of, free_tables};
-ghost use Rattle.gup_tables.specs.Tree.{tree_of, table_at, on_path, lacks, detachable, with_entry, word_of};
+ghost use Rattle.gup_spec_tables.specs.Tables.{table_at, on_path, lacks, detachable, with_entry, word_of};
+ghost use Rattle.gup_tables.specs.Tree.{tree_of};
 ghost use Rattle.gup_page_tables.specs.PageTables.{tables_of, no_tables, both, some_of, all_of, has_table, IsOf, freed_by, cleared, is_among, reclaims, grows, retires, shrinks};
 ghost use Rattle.gup_page_tables.specs.Kept.{AreApart, IsKept};
 

@@ -2,8 +2,9 @@
 use Rattle.std.proofs.Common.{◌≡◌, ℕ, ◌+◌, ◌-◌, ◌/◌, ◌%◌, ◌^◌, ◌<◌, Option, Some, None, length, ap, ◌∙◌, arith}
 use Rattle.gup_plain.specs.Put.{put, put2}
 use Rattle.gup_tables.specs.Kept.{IsTree, IsLowest}
-use Rattle.gup_tables.specs.Rows.{RowLists, place_in, word_in, table_numbers}
-use Rattle.gup_tables.specs.Tree.{table_at, on_path, link_to, lacks, with_table, tree_by, tree_of}
+use Rattle.gup_spec_tables.specs.Tables.{table_numbers, table_at, on_path, link_to, lacks, with_table}
+use Rattle.gup_tables.specs.Rows.{RowLists, place_in, word_in}
+use Rattle.gup_tables.specs.Tree.{tree_by, tree_of}
 use Rattle.gup_tables.proofs.Lacks.{lowest_lacks}
 use Rattle.gup_tables.proofs.RowLists.{blank}
 use Rattle.gup_tables.proofs.TreeGrown.{grown_tree, grown_value, grown_lacks, rooted_tree, rooted_value, rooted_lacks}

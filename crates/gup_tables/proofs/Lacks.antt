@@ -1,8 +1,9 @@
 -- How many tables of a page's path are missing: those below the lowest that is there.
 use Rattle.std.proofs.Common.{add-zero, ◌≡◌, ℕ, zero, suc, ◌+◌, ◌-◌, ◌<◌, ◌≤◌, Option, Some, None, IsSome, refl, ap, ◌∙◌, arith}
-use Rattle.gup_tables.specs.declared.place.Place.{Place}
+use Rattle.gup_spec_tables.specs.declared.place.Place.{Place}
 use Rattle.gup_tables.specs.Kept.{IsTree, IsLowest}
-use Rattle.gup_tables.specs.Tree.{table_at, on_path, lacks, tree_by}
+use Rattle.gup_spec_tables.specs.Tables.{table_at, on_path, lacks}
+use Rattle.gup_tables.specs.Tree.{tree_by}
 use Rattle.gup_tables.proofs.Paths.{path_above}
 use Rattle.gup_tables.proofs.Places.{at_some, found, no_table}
 

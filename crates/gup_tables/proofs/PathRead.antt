@@ -4,9 +4,10 @@ use Rattle.std.proofs.lemmas.Bool.{cases_eq}
 use Rattle.std.proofs.lemmas.Bool.Decides.{nat_tests}
 use Rattle.gup_base.specs.Packing.{pack_of}
 use Rattle.gup_base.specs.declared.entry.Entry.{Entry}
-use Rattle.gup_tables.specs.declared.place.Place.{Place}
+use Rattle.gup_spec_tables.specs.declared.place.Place.{Place}
 use Rattle.gup_tables.specs.Kept.{IsTree}
-use Rattle.gup_tables.specs.Tree.{TreeValue, table_at, on_path, above, link_to, word_of, word_here, entry_at, read_next, read_on, tree_by}
+use Rattle.gup_spec_tables.specs.Tables.{TreeValue, table_at, on_path, above, link_to, word_of, word_here, read_next, read_on}
+use Rattle.gup_tables.specs.Tree.{entry_at, tree_by}
 use Rattle.gup_tables.proofs.Lacks.{none_lower}
 use Rattle.gup_tables.proofs.Paths.{path_root, path_under}
 use Rattle.gup_tables.proofs.Places.{no_table, same_place, at_some, found}

@@ -1,10 +1,9 @@
 -- The four places on a page's path.
 use Rattle.std.proofs.Common.{◌≡◌, ℕ, zero, suc, ◌+◌, ◌-◌, ◌*◌, ◌/◌, ◌%◌, ◌^◌, ◌<◌, ◌≤◌, ◌==◌, false, Option, Some, None, IfSome, refl, ap, sym, ◌∙◌, arith}
 use Rattle.std.proofs.lemmas.Bool.Decides.{nat_tests}
-use Rattle.gup_tables.specs.declared.place.Place.{Place}
+use Rattle.gup_spec_tables.specs.declared.place.Place.{Place}
 use Rattle.gup_tables.specs.Kept.{IsTree}
-use Rattle.gup_tables.specs.Rows.{table_numbers}
-use Rattle.gup_tables.specs.Tree.{table_at, on_path, above, below, link_to}
+use Rattle.gup_spec_tables.specs.Tables.{table_numbers, table_at, on_path, above, below, link_to}
 use Rattle.gup_tables.proofs.Places.{same_place, at_some}
 
 pub path_root : (page : ℕ) → page < 2 ^ 35 → on_path 4 page ≡ on_path 4 0

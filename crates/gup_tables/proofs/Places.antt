@@ -4,9 +4,8 @@ use Rattle.std.proofs.lemmas.Bool.{cases_eq}
 use Rattle.std.proofs.lemmas.Bool.Decides.{nat_tests}
 use Rattle.gup_plain.specs.Put.{put, put2}
 use Rattle.gup_bits.proofs.Lowest.{lowest_none, lowest_same, lowest_some, lowest_absent}
-use Rattle.gup_tables.specs.declared.place.Place.{Place}
-use Rattle.gup_tables.specs.Rows.{table_numbers}
-use Rattle.gup_tables.specs.Tree.{is_at, table_at, above, below}
+use Rattle.gup_spec_tables.specs.declared.place.Place.{Place}
+use Rattle.gup_spec_tables.specs.Tables.{table_numbers, is_at, table_at, above, below}
 
 pub put_same : {X : Type 0} (k : ℕ) (x : X) (f : ℕ → X) → put k x f k ≡ x
 put_same k x f = let test : (k == k) ≡ true = grind (arith, nat_tests) in rw test refl

@@ -8,7 +8,8 @@ use Rattle.gup_plain.specs.Put.{put2}
 use Rattle.gup_tables.specs.declared.tree.Step.{Step}
 use Rattle.gup_tables.specs.Kept.{IsTree, IsLowest}
 use Rattle.gup_tables.specs.Rows.{RowLists, place_in, word_in}
-use Rattle.gup_tables.specs.Tree.{on_path, lacks, with_entry, tree_by, tree_of}
+use Rattle.gup_spec_tables.specs.Tables.{on_path, lacks, with_entry}
+use Rattle.gup_tables.specs.Tree.{tree_by, tree_of}
 use Rattle.gup_tables.proofs.Lacks.{lowest_lacks}
 use Rattle.gup_tables.proofs.TreeGrown.{tree_with}
 use Rattle.gup_tables.proofs.TreeSet.{unpack-pack, set_entry, set_tree}

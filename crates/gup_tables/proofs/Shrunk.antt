@@ -8,8 +8,9 @@ use Rattle.gup_plain.specs.Put.{put, put2}
 use Rattle.gup_maps.proofs.Ranges.{any_below_some}
 use Rattle.gup_tables.specs.declared.tree.Step.{Step}
 use Rattle.gup_tables.specs.Kept.{IsTree, IsLowest}
-use Rattle.gup_tables.specs.Rows.{RowLists, table_words, place_in, word_in}
-use Rattle.gup_tables.specs.Tree.{table_at, on_path, above, lacks, word_of, is_empty, detachable, without_table, tree_by, tree_of}
+use Rattle.gup_spec_tables.specs.Tables.{table_words, table_at, on_path, above, lacks, word_of, is_empty, detachable, without_table}
+use Rattle.gup_tables.specs.Rows.{RowLists, place_in, word_in}
+use Rattle.gup_tables.specs.Tree.{tree_by, tree_of}
 use Rattle.gup_tables.proofs.Lacks.{lacks_all, lowest_lacks, none_lower}
 use Rattle.gup_tables.proofs.Paths.{path_above}
 use Rattle.gup_tables.proofs.Places.{found, put2_same, put2_other}

@@ -2,9 +2,10 @@
 use Rattle.std.proofs.Common.{◌≡◌, ℕ, zero, suc, ◌+◌, ◌-◌, ◌*◌, ◌/◌, ◌%◌, ◌^◌, ◌<◌, ◌≤◌, Option, Some, None, IsSome, refl, ap, sym, ◌∙◌, arith}
 use Rattle.gup_base.specs.Packing.{pack_of, unpack_of}
 use Rattle.gup_base.specs.declared.entry.Entry.{Entry}
-use Rattle.gup_tables.specs.declared.place.Place.{Place}
+use Rattle.gup_spec_tables.specs.declared.place.Place.{Place}
 use Rattle.gup_tables.specs.Kept.{IsTree, IsUntouchedUntil}
-use Rattle.gup_tables.specs.Tree.{table_at, on_path, entry_at, tree_by}
+use Rattle.gup_spec_tables.specs.Tables.{table_at, on_path}
+use Rattle.gup_tables.specs.Tree.{entry_at, tree_by}
 use Rattle.gup_tables.proofs.Lacks.{none_lower}
 use Rattle.gup_tables.proofs.Paths.{path_root}
 use Rattle.gup_tables.proofs.Places.{same_place, at_some, found}

@@ -4,10 +4,10 @@ use Rattle.std.proofs.lemmas.Bool.{cases_eq, cases_lt}
 use Rattle.std.proofs.lemmas.Bool.Decides.{nat_tests}
 use Rattle.gup_base.specs.Packing.{pack_of, unpack_of}
 use Rattle.gup_plain.specs.Put.{put}
-use Rattle.gup_tables.specs.declared.place.Place.{Place}
+use Rattle.gup_spec_tables.specs.declared.place.Place.{Place}
 use Rattle.gup_tables.specs.Kept.{IsTree}
-use Rattle.gup_tables.specs.Rows.{table_numbers}
-use Rattle.gup_tables.specs.Tree.{table_at, on_path, above, below, link_to, word_here, entry_at, tree_by}
+use Rattle.gup_spec_tables.specs.Tables.{table_numbers, table_at, on_path, above, below, link_to, word_here}
+use Rattle.gup_tables.specs.Tree.{entry_at, tree_by}
 use Rattle.gup_tables.proofs.Places.{ArePlaced, no_table, same_place, other_level, put_same, put_other, at_some, found, added_placed, added_here, added_other, below_above, above_below}
 
 pub placed : (place : ℕ → Option Place) (word : ℕ → ℕ → ℕ) (root : Option ℕ) → IsTree place word root → ArePlaced place

@@ -4,9 +4,10 @@ use Rattle.std.proofs.lemmas.Bool.{cases_eq}
 use Rattle.std.proofs.lemmas.Bool.Decides.{nat_tests}
 use Rattle.gup_base.specs.Packing.{pack_of, unpack_of}
 use Rattle.gup_plain.specs.Put.{put, put2}
-use Rattle.gup_tables.specs.declared.place.Place.{Place}
+use Rattle.gup_spec_tables.specs.declared.place.Place.{Place}
 use Rattle.gup_tables.specs.Kept.{IsTree}
-use Rattle.gup_tables.specs.Tree.{table_at, on_path, above, below, link_to, word_here, entry_at, tree_by}
+use Rattle.gup_spec_tables.specs.Tables.{table_at, on_path, above, below, link_to, word_here}
+use Rattle.gup_tables.specs.Tree.{entry_at, tree_by}
 use Rattle.gup_tables.proofs.Places.{ArePlaced, other_level, put_same, put_other, put2_same, put2_other, at_some, found, removed_placed, removed_here, removed_other, below_above, above_below}
 use Rattle.gup_tables.proofs.TreeAdded.{placed, cases_place}
 

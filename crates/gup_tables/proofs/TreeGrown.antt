@@ -3,10 +3,10 @@ use Rattle.std.proofs.Common.{◌≡◌, ◌≢◌, ℕ, ◌+◌, ◌-◌, ◌/�
 use Rattle.std.proofs.Math.Path.{fun_ext}
 use Rattle.gup_base.specs.declared.entry.Entry.{Entry}
 use Rattle.gup_plain.specs.Put.{put, put2}
-use Rattle.gup_tables.specs.declared.place.Place.{Place}
+use Rattle.gup_spec_tables.specs.declared.place.Place.{Place}
 use Rattle.gup_tables.specs.Kept.{IsTree}
-use Rattle.gup_tables.specs.Rows.{table_numbers}
-use Rattle.gup_tables.specs.Tree.{TreeValue, table_at, on_path, above, link_to, lacks, with_table, tree_by}
+use Rattle.gup_spec_tables.specs.Tables.{table_numbers, TreeValue, table_at, on_path, above, link_to, lacks, with_table}
+use Rattle.gup_tables.specs.Tree.{tree_by}
 use Rattle.gup_tables.proofs.Lacks.{lacks_all, lacks_below, none_under}
 use Rattle.gup_tables.proofs.Paths.{path_above, path_root}
 use Rattle.gup_tables.proofs.Places.{other_level, put2_same, put2_other, found, added_here, added_other}

@@ -6,9 +6,10 @@ use Rattle.std.proofs.lemmas.Bool.Decides.{nat_tests}
 use Rattle.gup_base.specs.Packing.{pack_of, unpack_of}
 use Rattle.gup_base.specs.declared.entry.Entry.{Entry}
 use Rattle.gup_plain.specs.Put.{put, put2}
-use Rattle.gup_tables.specs.declared.place.Place.{Place}
+use Rattle.gup_spec_tables.specs.declared.place.Place.{Place}
 use Rattle.gup_tables.specs.Kept.{IsTree}
-use Rattle.gup_tables.specs.Tree.{table_at, on_path, word_here, entry_at, tree_by}
+use Rattle.gup_spec_tables.specs.Tables.{table_at, on_path, word_here}
+use Rattle.gup_tables.specs.Tree.{entry_at, tree_by}
 use Rattle.gup_tables.proofs.Places.{put_same, put_other, put2_same, put2_other, at_some, found}
 use Rattle.gup_tables.proofs.TreeAdded.{placed, entry_path}
 

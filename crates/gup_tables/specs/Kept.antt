@@ -1,9 +1,9 @@
 -- What is true of the tables of a tree.
 use Rattle.std.specs.Prelude.{◌≡◌, ℕ, ◌-◌, ◌^◌, ◌<◌, ◌≤◌, Option, None, Some, IsSome}
-use Rattle.gup_tables.specs.declared.place.Place.{Place}
+use Rattle.gup_spec_tables.specs.declared.place.Place.{Place}
 use Rattle.gup_tables.specs.declared.tree.Step.{Step}
-use Rattle.gup_tables.specs.Rows.{table_numbers}
-use Rattle.gup_tables.specs.Tree.{TreeValue, table_at, above, on_path, tree_by, word_here}
+use Rattle.gup_spec_tables.specs.Tables.{table_numbers, TreeValue, table_at, above, on_path, word_here}
+use Rattle.gup_tables.specs.Tree.{tree_by}
 
 -- Tables stand at different places of the four levels, over pages that there are, each but the root below another. Their words
 -- are those that lead to the tables below, and those of entries.

@@ -1,7 +1,6 @@
 -- Tables in rows: the number of each, where it stands, and its words.
-use Rattle.std.specs.Prelude.{◌≡◌, ℕ, ◌+◌, ◌*◌, ◌==◌, ◌&&◌, ◌<◌, ◌≤◌, Bool, nat_lt, if◌then◌else◌, is_some, List, length, slice_index, slice_index_or, Option, None, Some}
-use Rattle.gup_plain.specs.Pages.{sum_below}
-use Rattle.gup_tables.specs.declared.place.Place.{Place}
+use Rattle.std.specs.Prelude.{◌≡◌, ℕ, ◌+◌, ◌*◌, ◌==◌, ◌&&◌, ◌<◌, ◌≤◌, Bool, nat_lt, if◌then◌else◌, List, length, slice_index, slice_index_or, Option, None, Some}
+use Rattle.gup_spec_tables.specs.declared.place.Place.{Place}
 
 -- Row by row the tables' numbers, their places and 512 words of each; and by number, in which row a table is. What that list
 -- says of a table without a row means nothing.
@@ -11,10 +10,6 @@ pub record RowLists : Type 0 where
   pub words : List ℕ
   pub rows : List ℕ
   pub room : ℕ
-
--- how many words a table has
-unfoldable pub table_words : ℕ
-table_words = 512
 
 -- is this row the table's? The row has its number
 abbrev pub is_row : RowLists → (table row : ℕ) → Bool
@@ -41,13 +36,6 @@ place_in l table = place_at l (row_of l table)
 
 abbrev pub word_in : RowLists → ℕ → ℕ → ℕ
 word_in l table = word_at l (row_of l table)
-
--- how many numbers of tables there are, and how many of them are those of tables that stand somewhere
-unfoldable pub table_numbers : ℕ
-table_numbers = 8192
-
-abbrev pub placed_tables : (ℕ → Option Place) → ℕ
-placed_tables place = sum_below table_numbers (λ table. if is_some (place table) then 1 else 0)
 
 -- what is true of the lists: each row has a table, that table knows its row, and there is room for as many as there may be
 pub record IsKept (l : RowLists) (for_numbers for_places for_words : ℕ) : Type 0 where

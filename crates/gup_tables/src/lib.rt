@@ -2,14 +2,13 @@
 #![tactic(auto)]
 
 mod number;
-mod place;
 mod pool;
 mod rows;
 mod table;
 mod tree;
 
+pub use gup_spec_tables::Place;
 pub use number::TableNo;
-pub use place::Place;
 pub use pool::Pool;
 pub use table::Table;
 pub use tree::Tree;

@@ -2,11 +2,12 @@
 ghost use Rattle.std.specs.Prelude.{◌≡◌, ℕ, ◌+◌, ◌*◌, ◌<◌, ◌≤◌, ◌==◌, not, length, None, Some, IsSome, IfOk};
 ghost use Rattle.gup_plain.specs.Denial.{any_below};
 ghost use Rattle.gup_plain.specs.Put.{put, put2};
-ghost use Rattle.gup_tables.specs.Rows.{table_words, row_of, place_in, word_in, placed_tables};
+ghost use Rattle.gup_spec_tables.specs.Tables.{table_words, placed_tables};
+ghost use Rattle.gup_tables.specs.Rows.{row_of, place_in, word_in};
 
 use crate::number::TableNo;
-use crate::place::Place;
 use gup_base::NoMemory;
+use gup_spec_tables::Place;
 use std::alloc::Global;
 use std::marker::Model;
 

@@ -3,15 +3,15 @@ ghost use Rattle.std.specs.Prelude.{◌≡◌, ℕ, Option, ◌+◌, ◌-◌, �
 ghost use Rattle.gup_base.specs.declared.entry.Entry.{Entry as EntryValue};
 ghost use Rattle.gup_maps.specs.Table.{IsNextPage, IsLastPage};
 ghost use Rattle.gup_base.specs.Packing.{pack_of};
-ghost use Rattle.gup_tables.specs.Rows.{placed_tables};
-ghost use Rattle.gup_tables.specs.Tree.{read_on, no_tree, tree_of, table_at, on_path, lacks, with_table, with_entry, without_table, detachable, word_of, link_to};
+ghost use Rattle.gup_spec_tables.specs.Tables.{placed_tables, read_on, no_tree, table_at, on_path, lacks, with_table, with_entry, without_table, detachable, word_of, link_to};
+ghost use Rattle.gup_tables.specs.Tree.{tree_of};
 ghost use Rattle.gup_tables.specs.Kept.{IsLowest, IsUntouchedUntil};
 
 use crate::number::TableNo;
-use crate::place::Place;
 use crate::rows::Rows;
 use crate::table::Table;
 use gup_base::{Entry, FrameNo, NoMemory, PageNo, pack, unpack};
+use gup_spec_tables::Place;
 use std::alloc::Global;
 use std::marker::Model;
 

@@ -2,7 +2,8 @@ use Rattle.std.proofs.Common.{◌≡◌, ℕ, ◌+◌, ◌<◌, ◌≤◌, false
 use Rattle.std.proofs.lemmas.Option.{MatchOption-at_some}
 use Rattle.gup_plain.specs.Put.{lowest}
 use Rattle.gup_tables.specs.Pool.{PoolValue, pool_of, with_free, free_tables}
-use Rattle.gup_tables.specs.Tree.{TreeValue, tree_of, with_table}
+use Rattle.gup_spec_tables.specs.Tables.{TreeValue, with_table}
+use Rattle.gup_tables.specs.Tree.{tree_of}
 use Rattle.gup_page_tables.specs.PageTables.{Both, all_of, takes}
 use Rattle.gup_page_tables.proofs.Taken.{some_free, unplaced, fits, fewer, takes_own, takes_kept, step_grown, own_is, kept_is}
 use Rattle.gup_page_tables.proofs.page_tables.take_all.Goals as goal

@@ -1,6 +1,7 @@
 use Rattle.std.proofs.Common.{◌≡◌, ◌+◌, ◌-◌, ◌≤◌}
 use Rattle.gup_tables.specs.Pool.{pool_of, free_tables}
-use Rattle.gup_tables.specs.Tree.{tree_of, lacks}
+use Rattle.gup_spec_tables.specs.Tables.{lacks}
+use Rattle.gup_tables.specs.Tree.{tree_of}
 use Rattle.gup_page_tables.specs.PageTables.{some_of, all_of, IsOf, grows}
 use Rattle.gup_page_tables.specs.Kept.{IsKept}
 use Rattle.gup_page_tables.proofs.page_tables.take_all.Given as goal

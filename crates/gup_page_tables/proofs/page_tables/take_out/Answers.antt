@@ -1,6 +1,7 @@
 use Rattle.std.proofs.Common.{◌≡◌, ℕ, Some, ap, sym, ◌∙◌}
 use Rattle.gup_limbo.specs.Limbo.{LimboValue}
-use Rattle.gup_tables.specs.Tree.{TreeValue, tree_of, without_table}
+use Rattle.gup_spec_tables.specs.Tables.{TreeValue, without_table}
+use Rattle.gup_tables.specs.Tree.{tree_of}
 use Rattle.gup_page_tables.specs.PageTables.{TablesValue, some_of, has_table, retires}
 use Rattle.gup_page_tables.specs.Kept.{IsKept}
 use Rattle.gup_page_tables.proofs.TakenOut.{waits, same_has, retires_kept}

@@ -1,7 +1,8 @@
 use Rattle.std.proofs.Common.{◌≡◌, ℕ, ◌+◌, ◌-◌, ◌%◌, ◌<◌, ◌==◌, not, true, false, ap, sym, ◌∙◌, arith}
 use Rattle.std.proofs.lemmas.Bool.Decides.{nat_tests}
 use Rattle.gup_maps.proofs.Ranges.{any_below_none, any_below_some}
-use Rattle.gup_tables.specs.Rows.{table_words, word_in}
+use Rattle.gup_spec_tables.specs.Tables.{table_words}
+use Rattle.gup_tables.specs.Rows.{word_in}
 use Rattle.gup_tables.proofs.rows.Rows.is_empty.Goals as goal
 
 below : (k : ℕ) → k < 512 → k < table_words

@@ -2,7 +2,8 @@ use Rattle.std.proofs.Common.{◌≡◌, ◌+◌, ◌-◌, ◌/◌, ◌%◌, ◌
 use Rattle.gup_plain.specs.Put.{put, put2}
 use Rattle.gup_tables.specs.Kept.{IsLowest}
 use Rattle.gup_tables.specs.Rows.{RowLists, place_in, word_in}
-use Rattle.gup_tables.specs.Tree.{tree_of, on_path, lacks, with_table, link_to}
+use Rattle.gup_spec_tables.specs.Tables.{on_path, lacks, with_table, link_to}
+use Rattle.gup_tables.specs.Tree.{tree_of}
 use Rattle.gup_tables.proofs.GrownRows.{HasGrown, grown_rows, rooted_rows}
 use Rattle.gup_tables.proofs.Places.{at_level}
 use Rattle.gup_tables.proofs.tree.Tree.add.Goals as goal

@@ -1,6 +1,6 @@
 use Rattle.std.proofs.Common.{◌-◌, Some, sym, ap, ◌∙◌, rules, arith}
 use Rattle.gup_tables.specs.Rows.{place_in}
-use Rattle.gup_tables.specs.Tree.{on_path}
+use Rattle.gup_spec_tables.specs.Tables.{on_path}
 use Rattle.gup_tables.proofs.Paths.{path_root, next_table}
 use Rattle.gup_tables.proofs.Places.{at_some}
 use Rattle.gup_tables.proofs.tree.Tree.descend.Goals as goal

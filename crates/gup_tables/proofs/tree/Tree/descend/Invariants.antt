@@ -1,5 +1,6 @@
 use Rattle.std.proofs.Common.{◌-◌, ◌≡◌, ◌≤◌, Some}
-use Rattle.gup_tables.specs.Tree.{tree_of, on_path}
+use Rattle.gup_spec_tables.specs.Tables.{on_path}
+use Rattle.gup_tables.specs.Tree.{tree_of}
 use Rattle.gup_tables.proofs.tree.Tree.descend.Given as goal
 
 -- the table is the one of this level on the page's path

@@ -2,7 +2,8 @@ use Rattle.std.proofs.Common.{◌+◌, ◌/◌, ◌%◌, ◌^◌, None, Some, tr
 use Rattle.gup_plain.specs.Put.{put, put2}
 use Rattle.gup_tables.specs.Kept.{IsLowest}
 use Rattle.gup_tables.specs.Rows.{RowLists, word_in}
-use Rattle.gup_tables.specs.Tree.{tree_of, without_table}
+use Rattle.gup_spec_tables.specs.Tables.{without_table}
+use Rattle.gup_tables.specs.Tree.{tree_of}
 use Rattle.gup_tables.proofs.Shrunk.{HasShrunk, not_detachable, root_stays, detachable_by, still_zero, shrunk}
 use Rattle.gup_tables.proofs.tree.Tree.detach.Goals as goal
 

@@ -1,7 +1,8 @@
 use Rattle.std.proofs.Common.{length, ap, sym, ◌∙◌}
 use Rattle.gup_tables.specs.Kept.{IsLowest}
 use Rattle.gup_tables.specs.Rows.{RowLists, place_in, word_in}
-use Rattle.gup_tables.specs.Tree.{tree_of, lacks}
+use Rattle.gup_spec_tables.specs.Tables.{lacks}
+use Rattle.gup_tables.specs.Tree.{tree_of}
 use Rattle.gup_tables.proofs.Lacks.{lacks_all, lowest_lacks}
 use Rattle.gup_tables.proofs.tree.Tree.lacks.Goals as goal
 

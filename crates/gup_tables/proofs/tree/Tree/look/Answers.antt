@@ -2,7 +2,8 @@ use Rattle.std.proofs.Common.{◌≡◌, ◌-◌, ◌%◌, Some, length, ap, sym
 use Rattle.gup_base.specs.Packing.{unpack_of}
 use Rattle.gup_tables.specs.Kept.{IsLowest}
 use Rattle.gup_tables.specs.Rows.{place_in, word_in}
-use Rattle.gup_tables.specs.Tree.{tree_of, table_at, on_path, entry_at}
+use Rattle.gup_spec_tables.specs.Tables.{table_at, on_path}
+use Rattle.gup_tables.specs.Tree.{tree_of, entry_at}
 use Rattle.gup_tables.proofs.Lacks.{none_lower}
 use Rattle.gup_tables.proofs.Touched.{leaf_entry}
 use Rattle.gup_tables.proofs.tree.Tree.look.Goals as goal

@@ -1,8 +1,8 @@
 use Rattle.std.proofs.Common.{◌≡◌, ℕ, None, Some, Option, ap, sym}
 use Rattle.gup_bits.proofs.Lowest.{lowest_none}
-use Rattle.gup_tables.specs.declared.place.Place.{Place}
-use Rattle.gup_tables.specs.Rows.{place_in, table_numbers}
-use Rattle.gup_tables.specs.Tree.{is_at, on_path}
+use Rattle.gup_spec_tables.specs.declared.place.Place.{Place}
+use Rattle.gup_spec_tables.specs.Tables.{table_numbers, is_at, on_path}
+use Rattle.gup_tables.specs.Rows.{place_in}
 use Rattle.gup_tables.proofs.tree.Tree.new.Goals as goal
 
 nothing : (place : ℕ → Option Place) → place ≡ (λ _. None) → (table : ℕ) (p : Place) → place table ≡ Some p → ⊥

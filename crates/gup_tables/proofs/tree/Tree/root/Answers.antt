@@ -1,5 +1,5 @@
 use Rattle.std.proofs.Common.{◌≡◌, ℕ, Option, Some, None, IfNone, refl, sym, ◌∙◌}
-use Rattle.gup_tables.specs.declared.place.Place.{Place}
+use Rattle.gup_spec_tables.specs.declared.place.Place.{Place}
 use Rattle.gup_tables.specs.Rows.{place_in, word_in}
 use Rattle.gup_tables.proofs.PathRead.{rootless}
 use Rattle.gup_tables.proofs.tree.Tree.root.Goals as goal

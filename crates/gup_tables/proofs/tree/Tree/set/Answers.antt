@@ -3,7 +3,8 @@ use Rattle.std.specs.Option.{ForSome}
 use Rattle.gup_plain.specs.Put.{put2}
 use Rattle.gup_tables.specs.Kept.{IsLowest}
 use Rattle.gup_tables.specs.Rows.{RowLists, word_in}
-use Rattle.gup_tables.specs.Tree.{tree_of, lacks, with_entry}
+use Rattle.gup_spec_tables.specs.Tables.{lacks, with_entry}
+use Rattle.gup_tables.specs.Tree.{tree_of}
 use Rattle.gup_tables.proofs.SetRows.{HasSet, set_rows}
 use Rattle.gup_tables.proofs.tree.Tree.set.Goals as goal
 

@@ -1,7 +1,8 @@
 use Rattle.std.proofs.Common.{◌≡◌, ◌-◌, ◌%◌, Some, length, ap, sym, ◌∙◌, rules, arith}
 use Rattle.gup_tables.specs.Kept.{IsLowest}
 use Rattle.gup_tables.specs.Rows.{place_in, word_in}
-use Rattle.gup_tables.specs.Tree.{tree_of, on_path}
+use Rattle.gup_spec_tables.specs.Tables.{on_path}
+use Rattle.gup_tables.specs.Tree.{tree_of}
 use Rattle.gup_tables.proofs.Touched.{untouched, untouched_span, untouched_page, some_entry}
 use Rattle.gup_tables.proofs.tree.Tree.untouched_until.Goals as goal
 
