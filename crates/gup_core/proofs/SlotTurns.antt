@@ -26,7 +26,6 @@ use Rattle.gup_law_mirrors.proofs.InvalidatingTurns.{forked}
 use Rattle.gup_law_turns.specs.Slots.{LeavesSlot, EmptiesSlots}
 use Rattle.gup_law_turns.proofs.EmptiedSlots.{none_emptying, emptying_stale}
 use Rattle.gup_law_turns.proofs.MirrorOps.{mirror_none, look_none, look_leaves}
-use Rattle.gup_law_turns.proofs.ShownTurns.{run_behind}
 use Rattle.gup_op_base.specs.Turns.{Leads, IsTurnOf, Anywhere}
 use Rattle.gup_op_base.proofs.Leading.{leads_alike}
 use Rattle.gup_op_base.specs.Jobs.{place_of}
@@ -46,6 +45,7 @@ use Rattle.gup_core.specs.Goes.{ShowsAll, TakesMirrors, IsNoMirror, EndsAt, all_
 use Rattle.gup_core.proofs.Owning.{AreOwn, are_of, load_fault_own, pins_of, own_leave_pins, births_stay, IsUnforked, forks_stay, Pins}
 use Rattle.gup_core.proofs.Refusing.{IsRefusal, nothing, fails_too, refusal, birth_failed, birth_unfailed}
 use Rattle.gup_core.proofs.Turning.{IsTurnWith, there, replaced, births_shown, pins_shown, taken_shown, stores_shown}
+use Rattle.gup_spec_events.proofs.Runs.{run_behind}
 
 -- ---- which turn it is
 

@@ -22,7 +22,7 @@ use gup_exec_rows::stores::Stores;
 use std::alloc::Global;
 
 /// A state of the core machine, with 16 processes, 81 actors, 1,024 handles and as many got references, and 64 mirror
-/// slots. Contracts see it as `state_of` it.
+/// slots, and with no page tables. Contracts see it as `state_of` it.
 #[derive(Drop)]
 pub struct Trial {
     pub movable: u16,
@@ -69,7 +69,7 @@ impl Trial {
     /// The start: so many frames of the movable zone and, after them, of the normal one, all free and zero; one process
     /// born, and nothing mapped.
     pub fn new(alloc: Global, movable: u16, normal: u16, first: ProcNo) -> Result<Trial, NoMemory>
-        ensures { IfOk result (λ trial. state_of trial ≡ core_start movable normal (λ p. p == first)) }
+        ensures { IfOk result (λ trial. state_of trial ≡ core_start movable normal 0 (λ p. p == first)) }
     {
         let count = Row::new(alloc, 0)?;
         let mark = Row::new(alloc, false)?;

@@ -4,7 +4,7 @@ use Rattle.std.proofs.lemmas.Bool.Decides.{nat_tests}
 use Rattle.gup_plain.specs.Put.{put}
 use Rattle.gup_plain.specs.State.{Birth, unborn, growing, born, failed}
 use Rattle.gup_spec_events.specs.State.{CoreState, forking, ForkStep, between, counted, lowered, cleared, copying, failing}
-use Rattle.gup_spec_events.specs.Event.{CoreEvent, Can, happens, MayFail, is_odd, take_frame, fill, count_one, set_mark, upgrade, break_entry, put_entry, raise_flag, pin_page, make_handle, unpin_page, give_handle, take_handle, get_reference, put_reference, clear_entry, count_moved, place_frame, restore_entry, begin_fork, count_page, share_entry, share_mark, share_child, copy_word, place_child, pass_page, end_fork, fail_fork, put_child, fail_unborn, map_pages, lower_entry, protect_pages, drop_entry, discard_entry, load, store, move_out, move_in, empty_mirror, fill_mirror, look, enter_walk, read_sequence, read_entry, grab_frame, miss_frame, recheck_same, recheck_other, read_mark, read_again, drop_grab, drop_last, drop_first, leave_walk}
+use Rattle.gup_spec_events.specs.Event.{CoreEvent, Can, happens, MayFail, is_odd, take_frame, fill, count_one, set_mark, upgrade, break_entry, put_entry, raise_flag, pin_page, make_handle, unpin_page, give_handle, take_handle, get_reference, put_reference, clear_entry, count_moved, place_frame, restore_entry, begin_fork, count_page, share_entry, share_mark, share_child, copy_word, place_child, pass_page, end_fork, fail_fork, put_child, fail_unborn, map_pages, lower_entry, protect_pages, drop_entry, discard_entry, add_table, take_out, reclaim, load, store, move_out, move_in, empty_mirror, fill_mirror, look, enter_walk, read_sequence, read_entry, grab_frame, miss_frame, recheck_same, recheck_other, read_mark, read_again, drop_grab, drop_last, drop_first, leave_walk}
 use Rattle.gup_law_base.specs.Sound.{IsSound, Forking, forking_of, is_failing}
 use Rattle.gup_law_base.proofs.Numbers.{by_number}
 
@@ -160,6 +160,9 @@ forked_event n s (lower_entry a p page f) low sound can h = h
 forked_event n s (protect_pages a p page m rights) low sound can h = h
 forked_event n s (drop_entry a p page was) low sound can h = h
 forked_event n s (discard_entry a p page was) low sound can h = h
+forked_event n s (add_table a p page table) low sound can h = h
+forked_event n s (take_out a p page table) low sound can h = h
+forked_event n s (reclaim a p) low sound can h = h
 forked_event n s (load a p page word f value) low sound can h = h
 forked_event n s (store a p page word f value) low sound can h = h
 forked_event n s (move_out a handle index slot f value) low sound can h = h

@@ -10,7 +10,7 @@ use Rattle.gup_plain.specs.Event.{page_numbers, words}
 use Rattle.gup_plain.specs.Put.{put, put2}
 use Rattle.gup_plain.specs.State.{born}
 use Rattle.gup_spec_events.specs.State.{CoreState, core_start, Taken, moving, forking, Counted, one, ForkStep, cleared, copying}
-use Rattle.gup_spec_events.specs.Event.{CoreEvent, Can, happens, bias_of, entry_of, taken_frames, is_writable, take_frame, fill, count_one, set_mark, upgrade, break_entry, put_entry, raise_flag, pin_page, make_handle, unpin_page, give_handle, take_handle, get_reference, put_reference, clear_entry, count_moved, place_frame, restore_entry, begin_fork, count_page, share_entry, share_mark, share_child, copy_word, place_child, pass_page, end_fork, fail_fork, put_child, fail_unborn, map_pages, lower_entry, protect_pages, drop_entry, discard_entry, load, store, move_out, move_in, empty_mirror, fill_mirror, look, enter_walk, read_sequence, read_entry, grab_frame, miss_frame, recheck_same, recheck_other, read_mark, read_again, drop_grab, drop_last, drop_first, leave_walk}
+use Rattle.gup_spec_events.specs.Event.{CoreEvent, Can, happens, bias_of, entry_of, taken_frames, is_writable, take_frame, fill, count_one, set_mark, upgrade, break_entry, put_entry, raise_flag, pin_page, make_handle, unpin_page, give_handle, take_handle, get_reference, put_reference, clear_entry, count_moved, place_frame, restore_entry, begin_fork, count_page, share_entry, share_mark, share_child, copy_word, place_child, pass_page, end_fork, fail_fork, put_child, fail_unborn, map_pages, lower_entry, protect_pages, drop_entry, discard_entry, add_table, take_out, reclaim, load, store, move_out, move_in, empty_mirror, fill_mirror, look, enter_walk, read_sequence, read_entry, grab_frame, miss_frame, recheck_same, recheck_other, read_mark, read_again, drop_grab, drop_last, drop_first, leave_walk}
 use Rattle.gup_law_base.specs.Sound.{IsSound, Moving, Forking, moving_of, forking_of, step_page}
 use Rattle.gup_law_base.proofs.Numbers.{few_below, apart_alone}
 use Rattle.gup_law_base.proofs.Rows.{at_either, at_longer, at_mapped, contains_at}
@@ -192,6 +192,9 @@ numbers_event n s (drop_entry a p page was) sound can h =
     record { size = h.size; entries = entry_in n s h p page None (λ e is. absurd (cc)); taken = h.taken; pinned = h.pinned; frames = h.frames }
 numbers_event n s (discard_entry a p page was) sound can h =
     record { size = h.size; entries = entry_in n s h p page None (λ e is. absurd (cc)); taken = h.taken; pinned = h.pinned; frames = h.frames }
+numbers_event n s (add_table a p page table) sound can h = numbers_same n s (happens s (add_table a p page table)) refl refl refl refl refl refl h
+numbers_event n s (take_out a p page table) sound can h = numbers_same n s (happens s (take_out a p page table)) refl refl refl refl refl refl h
+numbers_event n s (reclaim a p) sound can h = numbers_same n s (happens s (reclaim a p)) refl refl refl refl refl refl h
 numbers_event n s (load a p page word f value) sound can h = numbers_same n s (happens s (load a p page word f value)) refl refl refl refl refl refl h
 numbers_event n s (store a p page word f value) sound can h = numbers_same n s (happens s (store a p page word f value)) refl refl refl refl refl refl h
 numbers_event n s (move_out a handle index slot f value) sound can h = numbers_same n s (happens s (move_out a handle index slot f value)) refl refl refl refl refl refl h
@@ -219,8 +222,8 @@ numbers_event n s (drop_first a p write long sequence first left) sound can h =
 numbers_event n s (leave_walk a p write long sequence) sound can h = numbers_same n s (happens s (leave_walk a p write long sequence)) refl refl refl refl refl refl h
 
 -- at the start nothing is there
-pub numbers_first : (movable normal : ℕ) (is_born : ℕ → Bool) → AreNumbered (movable + normal) (core_start movable normal is_born)
-numbers_first movable normal is_born =
+pub numbers_first : (movable normal tables : ℕ) (is_born : ℕ → Bool) → AreNumbered (movable + normal) (core_start movable normal tables is_born)
+numbers_first movable normal tables is_born =
     record {
       size = refl;
       entries = λ p page e is. absurd (cc);

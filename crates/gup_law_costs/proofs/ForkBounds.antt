@@ -42,7 +42,8 @@ use Rattle.gup_law_turns.proofs.MappedCounts.{mapped_none, pages_few, pages_behi
 use Rattle.gup_law_turns.proofs.Puts.{put_same, put_other, some_same}
 use Rattle.gup_law_turns.proofs.PageSearches.{IsLowest, lowest_some}
 use Rattle.gup_law_turns.proofs.TurnShapes.{IsOfProcess, child_of}
-use Rattle.gup_law_turns.proofs.ShownTurns.{idle_place, run_behind}
+use Rattle.gup_law_turns.proofs.ShownTurns.{idle_place}
+use Rattle.gup_spec_events.proofs.Runs.{run_behind}
 
 -- A turn leaves the pages of all processes but its own, or the child that it brings, and those of each that grows while
 -- another actor keeps its parent's structure lock. It leaves the jobs of other actors and what these have prepared, takes

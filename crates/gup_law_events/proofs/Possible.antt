@@ -44,7 +44,7 @@ entries_apart same = let e : entry_of 3 false ≡ entry_of 3 true = cc in let wr
 ◌and_then◌ can rest = (can, rest)
 
 infixr 5 ◌and_then◌
-pub they_can_happen : AllCan (core_start 2 8 first_born) one_run
+pub they_can_happen : AllCan (core_start 2 8 8 first_born) one_run
 they_can_happen =
     (refl, (refl, refl), few_pages, (λ k inside. refl), omega arith)
     and_then (tt, refl, omega arith, refl)

@@ -15,7 +15,7 @@ ghost use Rattle.gup_exec_plain.specs.LastWrite.{ArePossible, after};
 
 /// The start of the core machine is sound.
 pub fn starts_sound()
-    ensures { (movable normal : ℕ) (is_born : ℕ → Bool) → IsSound (core_start movable normal is_born) }
+    ensures { (movable normal tables : ℕ) (is_born : ℕ → Bool) → IsSound (core_start movable normal tables is_born) }
 {}
 
 /// A core event that can happen in a sound state leaves a sound state, and does its plain event to the plain state.
@@ -24,6 +24,7 @@ pub fn simulates()
 {
     gup_law_pages::faults_simulate();
     gup_law_pages::mappings_simulate();
+    gup_law_pages::tables_simulate();
     gup_law_pages::data_simulates();
     gup_law_pages::mirrors_simulate();
     gup_law_pins::pins_simulate();
@@ -44,14 +45,14 @@ pub fn sound_states_hold()
 /// lead to, and the plain events that stand at them are a plain list, which leads to the plain state that it stands
 /// for.
 pub fn core_runs_hold()
-    ensures holds { (movable normal : ℕ) (is_born : ℕ → Bool) (es : List CoreEvent) → AllCan (core_start movable normal is_born) es → Holds (run (core_start movable normal is_born) es) }
-    ensures plain { (movable normal : ℕ) (is_born : ℕ → Bool) (es : List CoreEvent) → AllCan (core_start movable normal is_born) es → ArePossible (plain_start is_born) (all_told es) }
-    ensures stands { (movable normal : ℕ) (is_born : ℕ → Bool) (es : List CoreEvent) → AllCan (core_start movable normal is_born) es → plain_of (run (core_start movable normal is_born) es) ≡ after (plain_start is_born) (all_told es) }
+    ensures holds { (movable normal tables : ℕ) (is_born : ℕ → Bool) (es : List CoreEvent) → AllCan (core_start movable normal tables is_born) es → Holds (run (core_start movable normal tables is_born) es) }
+    ensures plain { (movable normal tables : ℕ) (is_born : ℕ → Bool) (es : List CoreEvent) → AllCan (core_start movable normal tables is_born) es → ArePossible (plain_start is_born) (all_told es) }
+    ensures stands { (movable normal tables : ℕ) (is_born : ℕ → Bool) (es : List CoreEvent) → AllCan (core_start movable normal tables is_born) es → plain_of (run (core_start movable normal tables is_born) es) ≡ after (plain_start is_born) (all_told es) }
 {
     simulates();
 }
 
 /// The laws are not empty: a run with nearly every kind of event can happen, each event when it does.
 pub fn runs_are_possible()
-    ensures { AllCan (core_start 2 8 first_born) one_run }
+    ensures { AllCan (core_start 2 8 8 first_born) one_run }
 {}

@@ -33,13 +33,13 @@ use Rattle.gup_law_turns.proofs.EventLists.{Law}
 use Rattle.gup_law_turns.proofs.MirrorOps.{mirror_none, look_none}
 use Rattle.gup_law_turns.proofs.Puts.{some_same}
 use Rattle.gup_law_turns.proofs.ScriptLemmas.{op_is_op}
-use Rattle.gup_law_turns.proofs.ShownTurns.{run_behind}
 use Rattle.gup_law_turns.proofs.StandingStates.{Stands}
 use Rattle.gup_law_turns.proofs.StandingTurns.{stands_on, Starts, stands_first}
 use Rattle.gup_law_turns.proofs.TurnShapes.{FitsAt}
 use Rattle.gup_law_turns.proofs.TurnSteps.{taken, slots_left}
 use Rattle.gup_law_mirrors.proofs.EmptiedPages.{empties_of, spares}
 use Rattle.gup_law_mirrors.proofs.SlotNotes.{slots_of_turn, AreStaleNotes, IsAnswerLast, stale_append, IsNoMirror, AreOwn, own_last, own_stale, left_spared, own_spared, Own, turn_own}
+use Rattle.gup_spec_events.proofs.Runs.{run_behind}
 
 -- the slot is filled with this page
 pub record IsFilled (s : CoreState) (m : ℕ) (filled : PageOf) : Type 0 where

@@ -1,11 +1,11 @@
-//! The law of simulation for page faults, mappings, data and mirrors: each of these events leaves a sound state sound,
+//! The law of simulation for page faults, mappings, page tables, data and mirrors: each of these events leaves a sound state sound,
 //! and is its plain event.
 #![tactic(auto)]
 
 ghost use Rattle.std.specs.Prelude.{ℕ, Bool, Option};
 ghost use Rattle.gup_base.specs.declared.entry.Entry.{Entry};
 ghost use Rattle.gup_base.specs.declared.entry.Rights.{Rights};
-ghost use Rattle.gup_spec_events.specs.Event.{take_frame, fill, count_one, set_mark, upgrade, break_entry, put_entry, map_pages, lower_entry, protect_pages, drop_entry, discard_entry, load, store, move_out, move_in, empty_mirror, fill_mirror, look};
+ghost use Rattle.gup_spec_events.specs.Event.{take_frame, fill, count_one, set_mark, upgrade, break_entry, put_entry, map_pages, lower_entry, protect_pages, drop_entry, discard_entry, add_table, take_out, reclaim, load, store, move_out, move_in, empty_mirror, fill_mirror, look};
 ghost use Rattle.gup_law_base.specs.Simulated.{IsSimulated};
 
 /// The events of a page fault leave a sound state sound, and are their plain events.
@@ -26,6 +26,13 @@ pub fn mappings_simulate()
     ensures protect_pages { (a p page n : ℕ) (rights : Rights) → IsSimulated (protect_pages a p page n rights) }
     ensures drop_entry { (a p page : ℕ) (was : Option Entry) → IsSimulated (drop_entry a p page was) }
     ensures discard_entry { (a p page : ℕ) (was : Option Entry) → IsSimulated (discard_entry a p page was) }
+{}
+
+/// The events by which page tables come and go leave a sound state sound, and are no plain events.
+pub fn tables_simulate()
+    ensures add_table { (a p page table : ℕ) → IsSimulated (add_table a p page table) }
+    ensures take_out { (a p page table : ℕ) → IsSimulated (take_out a p page table) }
+    ensures reclaim { (a p : ℕ) → IsSimulated (reclaim a p) }
 {}
 
 /// Loads, stores, and the words that a device moves leave a sound state sound, and are their plain events.

@@ -23,11 +23,12 @@ use Rattle.gup_spec_turns.specs.PinPlace.{IsMovingPin, IsReadThere, IsWalkingPin
 use Rattle.gup_spec_turns.proofs.Unseen.{mirroring, IsButFor, run_unseen, emptying_unseen, empties_unseen}
 use Rattle.gup_law_turns.proofs.CalmStates.{IsCalm, Strand, AreTurnEvents, IsTurnEvent, IsHandleEvent, emptying_slot, handling, unpinning, looking_on, filling_slot, looking, breaking, lowering, protecting, dropping, discarding, clearing, sharing_entry}
 use Rattle.gup_law_turns.proofs.TurnShapes.{FitsFork, FitsMove, FitsPin, FitsAt, TurnAt, AtRest, child_of, strand_of, references_of}
-use Rattle.gup_law_turns.proofs.ShownTurns.{FitsNext, MakesPin, kinds_behind, can_behind, run_behind, told_behind}
+use Rattle.gup_law_turns.proofs.ShownTurns.{FitsNext, MakesPin, kinds_behind, told_behind}
 use Rattle.gup_law_turns.specs.Slots.{EmptiesSlots}
 use Rattle.gup_law_turns.proofs.KeptParts.{FillsNone}
 use Rattle.gup_law_turns.proofs.StandingStates.{IsTaken}
 use Rattle.gup_law_turns.proofs.EmptiedSlots.{empties_kinds, empties_told, empties_can, empties_fill, empties_leave, empties_left, emptying_stale}
+use Rattle.gup_spec_events.proofs.Runs.{can_behind, run_behind}
 
 -- the state with all slots empty
 abbrev pub calmed : CoreState → CoreState

@@ -40,7 +40,8 @@ use Rattle.gup_law_turns.proofs.Puts.{put_same, put2_same, some_same, none_of}
 use Rattle.gup_law_turns.proofs.PageSearches.{free_frame_free, lowest_some, lowest_none, none_below, undenied_map, denied_map, undenied_protect, denied_protect}
 use Rattle.gup_law_turns.proofs.TurnShapes.{references_of, AtFirst, FitsOp, TurnOf, refused, mapped, protected, loaded, stored, took, took_last, passed, passed_last, took_lowest, took_all, GoesOver, unmaps, discards, AtRest, unprepared, at_rest, IsDone, Rests, child_of, strand_of, IsAtOnce, IsAlwaysSlow}
 use Rattle.gup_law_turns.proofs.EventLists.{events_of}
-use Rattle.gup_law_turns.proofs.ShownTurns.{IsOpen, FitsNext, MakesPin, IsTurned, shape_idle, both_free, kinds_behind, run_behind, can_behind, told_behind}
+use Rattle.gup_law_turns.proofs.ShownTurns.{IsOpen, FitsNext, MakesPin, IsTurned, shape_idle, both_free, kinds_behind, told_behind}
+use Rattle.gup_spec_events.proofs.Runs.{run_behind, can_behind}
 
 -- where the range of an operation ends
 all_below : (page n : ℕ) → page + n ≤ 2 ^ 35 → page + n ≤ page_numbers

@@ -44,11 +44,12 @@ use Rattle.gup_law_turns.proofs.KeptPages.{pages_leave}
 use Rattle.gup_law_turns.proofs.PageSearches.{free_in_free, free_in_allowed}
 use Rattle.gup_law_turns.proofs.Puts.{put_same, put_other, put2_same}
 use Rattle.gup_law_turns.proofs.TurnShapes.{references_of, FitsOp, TurnOf, refused, pinned_page, pinned_all, pinned_short, AtRest, unprepared, Rests, FitsPin, TriesAt, IsSlowTurn, refused_slowly, RefusesAt, IsAtOnce, cleared_page, counted_cleared, lacked_frame, found_unmovable, at_rest}
-use Rattle.gup_law_turns.proofs.ShownTurns.{IsOpen, MakesPin, IsTurned, both_free, kinds_behind, run_behind, can_behind, told_behind, idle_place}
+use Rattle.gup_law_turns.proofs.ShownTurns.{IsOpen, MakesPin, IsTurned, both_free, kinds_behind, told_behind, idle_place}
 use Rattle.gup_law_turns.proofs.PinPace.{FewOver, none_over, room_page, room_behind, room_move, few_idle, few_moved}
 use Rattle.gup_law_turns.proofs.KeptParts.{stays_calm}
 use Rattle.gup_law_turns.proofs.KeptMarks.{moved_counted}
 use Rattle.gup_law_turns.proofs.MoveOps.{counted_is, counted_read}
+use Rattle.gup_spec_events.proofs.Runs.{run_behind, can_behind}
 
 -- lists by index
 

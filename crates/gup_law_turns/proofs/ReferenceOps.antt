@@ -24,8 +24,9 @@ use Rattle.gup_law_turns.proofs.FaultTurns.{IsReady, MayFault, may_fault, needs_
 use Rattle.gup_law_turns.proofs.PageOps.{named_load}
 use Rattle.gup_law_turns.proofs.PageSearches.{free_frame_free}
 use Rattle.gup_law_turns.proofs.Puts.{put2_same}
-use Rattle.gup_law_turns.proofs.ShownTurns.{IsOpen, IsQuiet, IsTurned, shape_idle, both_free, kinds_behind, run_behind, can_behind, told_behind}
+use Rattle.gup_law_turns.proofs.ShownTurns.{IsOpen, IsQuiet, IsTurned, shape_idle, both_free, kinds_behind, told_behind}
 use Rattle.gup_law_turns.proofs.TurnShapes.{AtFirst, FitsOp, Rests, refused, got_one, put_back, AtRest}
+use Rattle.gup_spec_events.proofs.Runs.{run_behind, can_behind}
 
 -- get
 

@@ -25,6 +25,7 @@ use Rattle.gup_law_turns.proofs.CalmStates.{IsCalm, Strand, AreTurnEvents}
 use Rattle.gup_law_turns.proofs.CountedFrames.{AreCountedThere}
 use Rattle.gup_law_turns.proofs.TurnShapes.{references_of, FitsAt, Rests, TurnOf, AtRest, IsDone, child_of, strand_of}
 use Rattle.std.specs.Prelude.{◌⊎◌}
+use Rattle.gup_spec_events.proofs.Runs.{run_behind, can_behind}
 
 -- A state between two turns, in which process p is born.
 pub record IsOpen (s : CoreState) (a p : ℕ) : Type 0 where
@@ -120,14 +121,6 @@ both_free s a p sound job free =
 pub kinds_behind : (a p c : ℕ) (strand : Strand) (before es : List CoreEvent) → AreTurnEvents a p c strand before → AreTurnEvents a p c strand es → AreTurnEvents a p c strand (before ++ es)
 kinds_behind a p c strand [] es kinds more = more
 kinds_behind a p c strand (e ∷ before) es kinds more = (kinds.0, kinds_behind a p c strand before es kinds.1 more)
-
-pub run_behind : (s : CoreState) (before es : List CoreEvent) → run s (before ++ es) ≡ run (run s before) es
-run_behind s [] es = refl
-run_behind s (e ∷ before) es = run_behind (happens s e) before es
-
-pub can_behind : (s : CoreState) (before es : List CoreEvent) → AllCan s before → AllCan (run s before) es → AllCan s (before ++ es)
-can_behind s [] es can more = more
-can_behind s (e ∷ before) es can more = (can.0, can_behind (happens s e) before es can.1 more)
 
 pub told_behind : (before es : List CoreEvent) → all_told before ≡ [] → all_told (before ++ es) ≡ all_told es
 told_behind [] es none = refl

@@ -675,7 +675,7 @@ plain_can law script valid r h a =
 
 -- the start of the core machine is sound
 abbrev pub Starts : Type 0
-Starts = (movable normal : ℕ) (is_born : ℕ → Bool) → IsSound (core_start movable normal is_born)
+Starts = (movable normal tables : ℕ) (is_born : ℕ → Bool) → IsSound (core_start movable normal tables is_born)
 
 -- a process that is born at the start is declared
 starts_declared : (script : ScriptValue) (p : ℕ) (process : Option Process) → process_at script p ≡ process → ((if is_born process then born else unborn) ≡ unborn → ⊥) → p < length script.processes
@@ -692,11 +692,11 @@ stands_first starts script valid =
     let unforked : (a k child : ℕ) → ForksAt script a k child → (run_start script).core.birth child ≡ unborn =
     λ a k child forks. starts_unborn (process_at script child) (child_is script valid a k child forks) in
     record {
-      sound = starts script.frames.movable script.frames.normal (starts_born script);
+      sound = starts script.frames.movable script.frames.normal script.frames.tables (starts_born script);
       slots = λ m f filled. absurd (cc filled);
       there = λ f some. absurd (some refl);
       rest = λ a. record { prepared = refl; owed = refl };
-      few = few_first (length script.processes) script.frames.movable script.frames.normal (starts_born script);
+      few = few_first (length script.processes) script.frames.movable script.frames.normal script.frames.tables (starts_born script);
       emptied = λ p page is. refl;
       declared = λ p. starts_declared script p (process_at script p) refl;
       fits = λ a. fresh_fits script valid (run_start script).core (doer_of script a (present_op script a first_place)) a 0 (refl, refl) (unforked a 0) (λ h makes. refl) (λ h holds. absurd (cc holds));

@@ -8,6 +8,7 @@ use Rattle.gup_spec_events.specs.State.{CoreState, core_start}
 use Rattle.gup_spec_events.specs.Event.{CoreEvent, happens, run}
 use Rattle.gup_spec_turns.specs.CoreTurn.{CoreTurn}
 use Rattle.gup_op_base.specs.Turns.{Leads, IsTurnOf}
+use Rattle.gup_spec_events.proofs.Runs.{run_behind}
 
 abbrev pub ch : (F F' : FramesValue) (S S' : SpaceValue) → Change
 ch F F' S S' = record { old_frames = F; new_frames = F'; old_space = S; new_space = S' }
@@ -22,15 +23,10 @@ pub notes_alike : {X : Type 0} {Shows : X → CoreState → Type 0} {Stands : Co
 notes_alike {X} {Shows} {Stands} {old} {new} {turn} {whats} {other} same h =
     subst (λ (ws : List What). IsTurnOf Shows Stands old new turn ws) (sym same) h
 
--- events after others
-pub run_behind : (s : CoreState) (es fs : List CoreEvent) → run s (es ++ fs) ≡ run (run s es) fs
-run_behind s [] fs = refl
-run_behind s (e ∷ es) fs = run_behind (happens s e) es fs
-
 -- a state of these frames, in which each process is this one
 abbrev pub state_of : FramesValue → SpaceValue → CoreState
 state_of F S =
-    record (core_start F.movable F.normal (λ _. true)) {
+    record (core_start F.movable F.normal 0 (λ _. true)) {
       count = F.count;
       mark = F.mark;
       word = F.word;

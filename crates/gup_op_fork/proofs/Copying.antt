@@ -24,9 +24,10 @@ use Rattle.gup_spec_events.proofs.Gone.{no_puts}
 use Rattle.gup_spec_turns.specs.ForkTurns.{fork_turn, frame_turn, copy_turn, copying_turn, rights_in}
 use Rattle.gup_spec_turns.specs.CoreTurn.{entry_in}
 use Rattle.gup_spec_turns.specs.JobPlace.{unbegun, from_page, wants_frame, at_word, copying_place, job_place, StandsFork}
-use Rattle.gup_op_base.proofs.Leading.{leads_alike, run_behind}
+use Rattle.gup_op_base.proofs.Leading.{leads_alike}
 use Rattle.gup_op_base.proofs.Searching.{free_agrees}
 use Rattle.gup_op_fork.proofs.Forking.{IsForking, change, leads_there, put_here, notes_alike}
+use Rattle.gup_spec_events.proofs.Runs.{run_behind}
 
 -- ---- a fork that copies a page
 

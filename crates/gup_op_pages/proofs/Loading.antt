@@ -26,10 +26,11 @@ use Rattle.gup_op_base.specs.declared.said.Head.{Head}
 use Rattle.gup_op_base.specs.Said.{Tells, whats_of, answered_said, loaded_said, stored_said}
 use Rattle.gup_op_base.specs.Turns.{Leads, IsTurnOf, Anywhere}
 use Rattle.gup_op_base.specs.Tidy.{IsTidy}
-use Rattle.gup_op_base.proofs.Leading.{ch, leads_alike, run_behind, state_of, has_frames, has_space}
+use Rattle.gup_op_base.proofs.Leading.{ch, leads_alike, state_of, has_frames, has_space}
 use Rattle.gup_op_base.proofs.Searching.{free_agrees, free_passes}
 use Rattle.gup_op_pages.specs.Alone.{AloneView, ShowsAlone}
 use Rattle.gup_op_pages.proofs.Viewing.{view, before, behind, events_show}
+use Rattle.gup_spec_events.proofs.Runs.{run_behind}
 
 -- ---- what is answered
 

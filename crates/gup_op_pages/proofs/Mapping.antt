@@ -24,10 +24,11 @@ use Rattle.gup_spec_turns.specs.PageTurns.{map_turn, lowers_entry, lowers, prote
 use Rattle.gup_spec_turns.proofs.TurnParts.{map_turn_by, protect_turn_by}
 use Rattle.gup_op_pages.specs.Lowered.{read_only, lowered, IsLowered, IsLoweredFor}
 use Rattle.gup_op_base.specs.Turns.{Leads, IsTurnOf, Anywhere}
-use Rattle.gup_op_base.proofs.Leading.{leads_alike, run_behind}
+use Rattle.gup_op_base.proofs.Leading.{leads_alike}
 use Rattle.gup_op_base.proofs.Searching.{any_same}
 use Rattle.gup_op_pages.specs.Alone.{ShowsAlone}
 use Rattle.gup_op_pages.proofs.Viewing.{view}
+use Rattle.gup_spec_events.proofs.Runs.{run_behind}
 
 -- a process that is as it was
 as_it_is : (F : FramesValue) (S S' : SpaceValue) (p : ℕ) (s : CoreState) → S' ≡ S → ShowsAlone p (view F S) s → ShowsAlone p (view F S') s

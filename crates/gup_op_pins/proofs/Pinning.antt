@@ -35,8 +35,9 @@ use Rattle.gup_move.specs.Moves.{with_table, AreMoveEvents, places}
 use Rattle.gup_op_base.proofs.Searching.{free_agrees}
 use Rattle.gup_op_base.specs.Tidy.{IsTidy}
 use Rattle.gup_op_base.specs.Turns.{Leads}
-use Rattle.gup_op_base.proofs.Leading.{ch, leads_alike, run_behind}
+use Rattle.gup_op_base.proofs.Leading.{ch, leads_alike}
 use Rattle.gup_op_pins.proofs.Readying.{IsLeft, pin_fault_same, fault_raised, pin_fault_leaves}
+use Rattle.gup_spec_events.proofs.Runs.{run_behind}
 
 -- a pin that is in the middle of nothing
 abbrev pub IsOver : PinningView → Type 0

@@ -29,13 +29,14 @@ use Rattle.gup_spec_turns.specs.PinTurns.{gets, get_turn, got_by, got_frame, put
 use Rattle.gup_spec_turns.proofs.TurnParts.{gets_after, put_turn_by}
 use Rattle.gup_op_base.specs.Tidy.{IsTidy}
 use Rattle.gup_op_base.specs.Turns.{Leads, IsTurnOf, Anywhere}
-use Rattle.gup_op_base.proofs.Leading.{ch, leads_alike, run_behind}
+use Rattle.gup_op_base.proofs.Leading.{ch, leads_alike}
 use Rattle.gup_op_base.proofs.Searching.{free_agrees}
 use Rattle.gup_op_pins.specs.Pins.{IsReferred, PinningView, ShowsPinning, EndAt}
 use Rattle.gup_op_pins.specs.Held.{ShowsHeld}
 use Rattle.gup_op_pins.proofs.Holding.{view}
 use Rattle.gup_op_pins.proofs.Pinning.{shows_same, unmade_shown, frame_is, IsOver, no_last}
 use Rattle.gup_op_pins.proofs.Readying.{IsLeft, fault_to_get, get_fault_leaves, get_fault_rests}
+use Rattle.gup_spec_events.proofs.Runs.{run_behind}
 
 -- ---- get
 

@@ -22,9 +22,10 @@ use Rattle.gup_spec_turns.specs.PageTurns.{load_fault}
 use Rattle.gup_spec_turns.specs.MirrorTurns.{fills, mirror_turn}
 use Rattle.gup_op_base.specs.Tidy.{IsTidy}
 use Rattle.gup_op_base.specs.Turns.{Leads, IsTurnOf, Anywhere}
-use Rattle.gup_op_base.proofs.Leading.{leads_alike, run_behind}
+use Rattle.gup_op_base.proofs.Leading.{leads_alike}
 use Rattle.gup_op_pages.proofs.Loading.{LoadFault, read_fault_same}
 use Rattle.gup_op_slots.specs.Mirroring.{MirroringView, ShowsMirroring}
+use Rattle.gup_spec_events.proofs.Runs.{run_behind}
 
 abbrev pub view : FramesValue → SpaceValue → MirrorsValue → MirroringView
 view F S M = record { frames = F; space = S; mirrors = M }

@@ -4,9 +4,8 @@ use Rattle.std.proofs.lemmas.Bool.Decides.{nat_tests}
 use Rattle.gup_plain.specs.Put.{put, lowest}
 use Rattle.gup_plain.proofs.Sums.{passing, none_passing, one_more_passing, same_passing}
 use Rattle.gup_bits.proofs.Lowest.{lowest_absent}
-use Rattle.gup_page_tables.specs.PageTables.{is_among}
-use Rattle.gup_page_tables.specs.Kept.{AreApart}
 use Rattle.gup_page_tables.proofs.Reclaimed.{among_first, among_rest}
+use Rattle.gup_spec_tables.specs.Tables.{is_among, AreApart}
 
 abbrev one : Bool → ℕ
 one b = if b then 1 else 0
@@ -46,17 +45,3 @@ passing_among n (first ∷ rest) apart within =
     let more = one_more_passing n (is_among rest) (is_among (first ∷ rest)) first (within first (among_first first rest)) apart.0 (among_first first rest) (λ k test. rw test refl) in
     let fewer = passing_among n rest apart.1 (λ k is. within k (among_rest first rest k is)) in
     omega (arith, more, fewer)
-
--- where none is the lowest that passes, none passes
-pub none_lowest : (n : ℕ) (test : ℕ → Bool) → lowest 0 n test ≡ None → passing n test ≡ 0
-none_lowest n test none =
-    same_passing n test (λ k. false) (λ k less. lowest_absent 0 n test none k (omega arith) (omega (arith, less)))
-    ∙ none_passing n (λ k. false) (λ k. refl)
-
--- one that passes
-pub some_passing : (n : ℕ) (test : ℕ → Bool) (k : ℕ) → k < n → test k ≡ true → 0 < passing n test
-some_passing n test k less is =
-    let same : (j : ℕ) → (j == k) ≡ false → test j ≡ put k false test j = λ j other. rw other refl in
-    let gone : put k false test k ≡ false = let own : (k == k) ≡ true = grind (arith, nat_tests) in rw own refl in
-    let more = one_more_passing n (put k false test) test k less gone is same in
-    omega (arith, more)

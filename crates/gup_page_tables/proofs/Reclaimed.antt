@@ -6,8 +6,8 @@ use Rattle.std.proofs.lemmas.Bool.Decides.{nat_tests}
 use Rattle.gup_limbo.specs.Limbo.{LimboValue}
 use Rattle.gup_plain.specs.Put.{put}
 use Rattle.gup_tables.specs.Pool.{PoolValue, with_free}
-use Rattle.gup_page_tables.specs.PageTables.{is_among, freed_by, cleared}
-use Rattle.gup_page_tables.specs.Kept.{AreApart}
+use Rattle.gup_page_tables.specs.PageTables.{freed_by, cleared}
+use Rattle.gup_spec_tables.specs.Tables.{is_among, AreApart}
 
 pub among_first : (first : ℕ) (rest : List ℕ) → is_among (first ∷ rest) first ≡ true
 among_first first rest = let test : (first == first) ≡ true = grind (arith, nat_tests) in rw test refl

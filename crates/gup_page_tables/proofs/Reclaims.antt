@@ -1,9 +1,10 @@
 -- What is true of a process and the pool stays so when what was taken out comes free.
 use Rattle.std.proofs.Common.{◌≡◌, ℕ, ◌==◌, ◌||◌, Bool, true, false, None, is_some, refl, sym, ◌∙◌, arith}
 use Rattle.gup_tables.specs.Pool.{PoolValue}
-use Rattle.gup_page_tables.specs.PageTables.{TablesValue, Both, IsOf, has_table, is_among, reclaims}
+use Rattle.gup_page_tables.specs.PageTables.{TablesValue, Both, IsOf, has_table, reclaims}
 use Rattle.gup_page_tables.specs.Kept.{IsKept}
 use Rattle.gup_page_tables.proofs.Taken.{or_left}
+use Rattle.gup_spec_tables.specs.Tables.{is_among}
 
 or_none : (b : Bool) → (b || false) ≡ b
 or_none true = refl

@@ -6,10 +6,11 @@ use Rattle.gup_bits.proofs.Lowest.{lowest_some}
 use Rattle.gup_plain.specs.Put.{put, lowest}
 use Rattle.gup_plain.proofs.Sums.{one_more_passing}
 use Rattle.gup_tables.specs.Pool.{free_tables}
-use Rattle.gup_spec_tables.specs.Tables.{table_numbers, placed_tables}
-use Rattle.gup_page_tables.specs.PageTables.{Both, IsOf, has_table, is_among, takes, grows}
+use Rattle.gup_spec_tables.specs.Tables.{table_numbers, placed_tables, is_among}
+use Rattle.gup_page_tables.specs.PageTables.{Both, IsOf, has_table, takes, grows}
 use Rattle.gup_page_tables.specs.Kept.{IsKept}
-use Rattle.gup_page_tables.proofs.Counts.{passing_within, passing_apart, passing_among, none_lowest, some_passing}
+use Rattle.gup_page_tables.proofs.Counts.{passing_within, passing_apart, passing_among}
+use Rattle.gup_tables.proofs.FreeTables.{none_lowest, some_passing}
 
 pub or_false : (a b : Bool) → (a || b) ≡ false → (a ≡ false) × (b ≡ false)
 or_false true b none = absurd cc

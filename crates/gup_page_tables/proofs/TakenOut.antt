@@ -2,55 +2,12 @@
 use Rattle.std.proofs.Common.{◌≡◌, ◌≢◌, ℕ, ◌+◌, ◌<◌, ◌==◌, ◌||◌, nat_lt, Bool, true, false, cond, List, [], ◌∷◌, ◌++◌, length, length-append, Option, Some, None, is_some, refl, ap, sym, ◌∙◌, ⊎_elim, arith}
 use Rattle.std.proofs.lemmas.Bool.{cases_eq}
 use Rattle.std.proofs.lemmas.Bool.Decides.{nat_tests}
-use Rattle.gup_spec_tables.specs.Tables.{table_numbers, placed_tables, TreeValue, table_at, on_path, lacks, is_empty, if_empty, detachable}
-use Rattle.gup_tables.proofs.Places.{at_some}
-use Rattle.gup_page_tables.specs.PageTables.{TablesValue, has_table, is_among, retires}
-use Rattle.gup_page_tables.specs.Kept.{AreApart, IsKept}
-use Rattle.gup_page_tables.proofs.Counts.{some_passing}
-
-among_behind : (list : List ℕ) (last number : ℕ) → is_among (list ++ last ∷ []) number ≡ (is_among list number || number == last)
-among_behind [] last number = go (number == last)
-  where
-    go : (b : Bool) → (b || false) ≡ (false || b)
-    go true = refl
-    go false = refl
-among_behind (first ∷ rest) last number = go (number == first) (among_behind rest last number)
-  where
-    go : (b : Bool) → is_among (rest ++ last ∷ []) number ≡ (is_among rest number || number == last) → (b || is_among (rest ++ last ∷ []) number) ≡ ((b || is_among rest number) || number == last)
-    go true is = refl
-    go false is = is
-
-apart_behind : (list : List ℕ) (last : ℕ) → AreApart list → is_among list last ≡ false → AreApart (list ++ last ∷ [])
-apart_behind [] last apart none = (refl, tt)
-apart_behind (first ∷ rest) last apart none =
-    let both = parts (last == first) none in
-    let other : (first == last) ≡ false = swapped first last both.0 in (
-      among_behind rest last first ∙ rw (apart.0, other) refl,
-      apart_behind rest last apart.1 both.1,
-    )
-  where
-    parts : (b : Bool) → (b || is_among rest last) ≡ false → (b ≡ false) × (is_among rest last ≡ false)
-    parts true none = absurd cc
-    parts false none = (refl, none)
-
-    swapped : (m n : ℕ) → (n == m) ≡ false → (m == n) ≡ false
-    swapped m n test = grind (arith, nat_tests, test)
-
-if_found : (v : TreeValue) (o : Option ℕ) (table : ℕ) → if_empty v o ≡ Some table → o ≡ Some table
-if_found v None table is = absurd cc
-if_found v (Some other) table is = go (is_empty v other) refl is
-  where
-    go : (b : Bool) → is_empty v other ≡ b → cond b (Some other) None ≡ Some table → Some other ≡ Some table
-    go true test is = is
-    go false test is = absurd cc
-
--- what can be taken out is in the tree
-pub stands : (v : TreeValue) (page table : ℕ) → detachable v page ≡ Some table → (table < table_numbers) × (v.place table ≡ Some (on_path (lacks v page + 1) page))
-stands v page table is = go (nat_lt (lacks v page) 3) refl is
-  where
-    go : (b : Bool) → nat_lt (lacks v page) 3 ≡ b → cond b (if_empty v (table_at v.place (on_path (lacks v page + 1) page))) None ≡ Some table → (table < table_numbers) × (v.place table ≡ Some (on_path (lacks v page + 1) page))
-    go true test is = at_some v.place (on_path (lacks v page + 1) page) table (if_found v (table_at v.place (on_path (lacks v page + 1) page)) table is)
-    go false test is = absurd cc
+use Rattle.gup_spec_tables.specs.Tables.{table_numbers, placed_tables, TreeValue, table_at, on_path, lacks, is_empty, if_empty, detachable, is_among, AreApart}
+use Rattle.gup_spec_tables.proofs.Among.{among_behind, apart_behind}
+use Rattle.gup_tables.proofs.Detachable.{stands}
+use Rattle.gup_page_tables.specs.PageTables.{TablesValue, has_table, retires}
+use Rattle.gup_page_tables.specs.Kept.{IsKept}
+use Rattle.gup_tables.proofs.FreeTables.{some_passing}
 
 module _ (v : TablesValue) (kept : IsKept v) (counted : placed_tables v.tree.place ≡ v.tree.tables) (page table : ℕ) (is : detachable v.tree page ≡ Some table) where
   placed : is_some (v.tree.place table) ≡ true

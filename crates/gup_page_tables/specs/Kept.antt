@@ -1,11 +1,7 @@
 -- What is true of the page tables of a process.
 use Rattle.std.specs.Prelude.{◌≡◌, ℕ, ◌+◌, ◌≤◌, true, false, List, [], ◌∷◌, length, None}
-use Rattle.gup_page_tables.specs.PageTables.{TablesValue, is_among}
-
--- no number stands there twice
-abbrev pub AreApart : List ℕ → Type 0
-AreApart [] = Unit {0}
-AreApart (first ∷ rest) = (is_among rest first ≡ false) × AreApart rest
+use Rattle.gup_page_tables.specs.PageTables.{TablesValue}
+use Rattle.gup_spec_tables.specs.Tables.{is_among, AreApart}
 
 -- no table is in the tree and taken out of it, or was taken out twice; and there is room for all, wherever they are
 pub record IsKept (v : TablesValue) : Type 0 where

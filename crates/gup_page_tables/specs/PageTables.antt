@@ -4,7 +4,7 @@ use Rattle.gup_limbo.specs.Limbo.{LimboValue, no_limbo, with_retired}
 use Rattle.gup_plain.specs.Put.{lowest}
 use Rattle.gup_tables.specs.Pool.{PoolValue, with_free}
 use Rattle.gup_tables.specs.Rows.{RowLists}
-use Rattle.gup_spec_tables.specs.Tables.{TreeValue, no_tree, with_table, without_table, detachable}
+use Rattle.gup_spec_tables.specs.Tables.{TreeValue, no_tree, with_table, without_table, detachable, is_among}
 use Rattle.gup_tables.specs.Tree.{tree_of}
 
 -- the tree of a process, and the numbers of the tables that were taken out of it, with its walks
@@ -22,11 +22,6 @@ pub record TablesParts : Type 0 where
 
 abbrev pub tables_of : TablesParts → TablesValue
 tables_of p = record { tree = tree_of p.rows; limbo = p.limbo }
-
--- is the number among these?
-abbrev pub is_among : List ℕ → (number : ℕ) → Bool
-is_among [] number = false
-is_among (first ∷ rest) number = number == first || is_among rest number
 
 -- does the process have the table, in its tree or taken out of it?
 abbrev pub has_table : TablesValue → (table : ℕ) → Bool

@@ -4,10 +4,10 @@ ghost use Rattle.std.specs.VecDeque.Iter.{deque_iter_rest};
 ghost use Rattle.gup_limbo.specs.Limbo.{LimboValue};
 ghost use Rattle.gup_maps.specs.Table.{IsNextPage, IsLastPage};
 ghost use Rattle.gup_tables.specs.Pool.{pool_of, free_tables};
-ghost use Rattle.gup_spec_tables.specs.Tables.{table_at, on_path, lacks, detachable, with_entry, word_of};
+ghost use Rattle.gup_spec_tables.specs.Tables.{table_at, on_path, lacks, detachable, with_entry, word_of, is_among, AreApart};
 ghost use Rattle.gup_tables.specs.Tree.{tree_of};
-ghost use Rattle.gup_page_tables.specs.PageTables.{tables_of, no_tables, both, some_of, all_of, has_table, IsOf, freed_by, cleared, is_among, reclaims, grows, retires, shrinks};
-ghost use Rattle.gup_page_tables.specs.Kept.{AreApart, IsKept};
+ghost use Rattle.gup_page_tables.specs.PageTables.{tables_of, no_tables, both, some_of, all_of, has_table, IsOf, freed_by, cleared, reclaims, grows, retires, shrinks};
+ghost use Rattle.gup_page_tables.specs.Kept.{IsKept};
 
 use gup_base::{Entry, NoMemory, PageNo};
 use gup_limbo::{Limbo, Reclaim};
@@ -24,7 +24,7 @@ pub struct NoTable;
 
 impl fmt::Display for NoTable {
     fn fmt<W: fmt::Write>(&self, f: &mut fmt::Formatter<W>) -> fmt::Result {
-        f.write_str("no page table is free")
+        f.write_str("too few page tables are free")
     }
 }
 

@@ -1,5 +1,5 @@
 -- The core events: when each can happen, what it changes, and the plain event that stands at it.
-use Rattle.std.specs.Prelude.{◌≡◌, ℕ, ◌+◌, ◌-◌, ◌/◌, ◌%◌, ◌<◌, ◌≤◌, ◌==◌, ◌&&◌, ◌||◌, nat_le, nat_lt, not, Bool, true, false, if◌then◌else◌, List, [], ◌∷◌, ◌++◌, map, slice_get, All, Contains, Option, Some, None, IsSome, zero}
+use Rattle.std.specs.Prelude.{◌≡◌, ℕ, ◌+◌, ◌-◌, ◌/◌, ◌%◌, ◌<◌, ◌≤◌, ◌==◌, ◌&&◌, ◌||◌, ◌⊎◌, nat_le, nat_lt, not, Bool, true, false, if◌then◌else◌, List, [], ◌∷◌, ◌++◌, map, slice_get, All, Contains, Option, Some, None, IsSome, zero}
 use Rattle.std.specs.Option.{option_map}
 pub use Rattle.gup_base.specs.Counts.{bias}
 use Rattle.gup_base.specs.declared.entry.Allowed.{Allowed}
@@ -15,6 +15,7 @@ use Rattle.gup_base.specs.Counts.{most_slots}
 use Rattle.gup_plain.specs.Pages.{mapped_pages}
 use Rattle.gup_plain.specs.Put.{put, put2, spread}
 use Rattle.gup_plain.specs.State.{PlainState, Noted, unborn, growing, born, failed, unmade, held, gone, named_or_zero}
+use Rattle.gup_spec_tables.specs.Tables.{TreeValue, table_numbers, placed_tables, on_path, lacks, detachable, is_among}
 use Rattle.gup_spec_events.specs.State.{CoreState, Taken, Job, idle, marking, moving, forking, walking, Counted, unread, one, more, ForkStep, between, counted, lowered, cleared, copying, failing, WalkStep, entered, ready, read, grabbed, rechecked, differed, refused, stopped, dropping, over}
 
 -- An event names its actor, its process and page, and what it reads: so its change has no cases.
@@ -90,6 +91,14 @@ pub data CoreEvent : Type 0 where
   -- the page loses its entry, if it has one, and its mapping, or its contents
   drop_entry : (a p page : ℕ) (was : Option Entry) → CoreEvent
   discard_entry : (a p page : ℕ) (was : Option Entry) → CoreEvent
+  -- page tables
+
+  -- a free table goes to the highest place that the page lacks
+  add_table : (a p page table : ℕ) → CoreEvent
+  -- the lowest table of the page's path is taken out of the tree: it is empty, and not the root
+  take_out : (a p page table : ℕ) → CoreEvent
+  -- no walk of the process runs: all tables that it has taken out come free
+  reclaim : (a p : ℕ) → CoreEvent
   -- data and mirrors
 
   -- one word of the entry's frame is read, or written through a writable entry
@@ -246,6 +255,20 @@ abbrev pub step_left : List Taken → WalkStep
 step_left [] = over
 step_left (t ∷ taken) = dropping
 
+-- the page tables of a process, with the entries that they hold
+abbrev pub tree_in : CoreState → (p : ℕ) → TreeValue
+tree_in s p = record { entry = s.entry p; place = s.place p; tables = placed_tables (s.place p); room = table_numbers }
+
+-- the child of a running fork, also of one that fails
+abbrev pub child_of : Job → Option ℕ
+child_of (forking p child done step) = Some child
+child_of job = None
+
+-- The page tables of a born process change while it is unlocked, those of a fork's child by the forking actor, and those of a
+-- failed one, whose last entry ends its fork, until all that can go is gone.
+abbrev pub MayShape : CoreState → (a p : ℕ) → Type 0
+MayShape s a p = ((s.birth p ≡ born) × AreUnlocked s p) ⊎ (s.birth p ≡ failed) ⊎ (child_of (s.job a) ≡ Some p)
+
 abbrev pub Can : CoreState → CoreEvent → Type 0
 -- faults
 Can s (take_frame a f) = MayPrepare (s.job a) × (s.prepared a ≡ None) × (f < s.movable + s.normal) × (s.count f ≡ 0)
@@ -329,6 +352,12 @@ Can s (drop_entry a p page was) =
 Can s (discard_entry a p page was) =
     (s.birth p ≡ born) × AreUnlocked s p × (s.job a ≡ idle) × IsSome (s.right p page) × (s.entry p page ≡ was)
     × (s.owed a ≡ None) × IsUnmirrored s p page
+-- page tables
+Can s (add_table a p page table) =
+    MayShape s a p × IsSome (s.right p page) × (page < page_numbers) × (s.free_table table ≡ true)
+    × (0 < lacks (tree_in s p) page)
+Can s (take_out a p page table) = MayShape s a p × (detachable (tree_in s p) page ≡ Some table)
+Can s (reclaim a p) = MayShape s a p × (s.walks p ≡ 0)
 -- data and mirrors
 Can s (load a p page word f value) =
     (s.birth p ≡ born) × ((writable : Bool) × (s.entry p page ≡ Some (entry_of f writable))) × (word < words)
@@ -583,6 +612,19 @@ happens s (discard_entry a p page was) =
       made = s.made + 1;
       object = put2 p page s.made s.object;
       owed = put a (option_map (λ (e : Entry). e.frame) was) s.owed;
+    }
+-- page tables
+happens s (add_table a p page table) =
+    record s {
+      place = put2 p table (Some (on_path (lacks (tree_in s p) page) page)) s.place;
+      free_table = put table false s.free_table;
+    }
+happens s (take_out a p page table) =
+    record s { place = put2 p table None s.place; retired = put p (s.retired p ++ table ∷ []) s.retired }
+happens s (reclaim a p) =
+    record s {
+      free_table = λ table. s.free_table table || is_among (s.retired p) table;
+      retired = put p [] s.retired;
     }
 -- data and mirrors
 happens s (load a p page word f value) = s

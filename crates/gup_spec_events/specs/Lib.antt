@@ -3,3 +3,4 @@ pub mod Event
 pub mod Invariant
 pub mod Fault
 pub mod Failure
+pub mod Growth

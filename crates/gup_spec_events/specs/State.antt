@@ -1,9 +1,10 @@
--- The state of the core machine: frames with counts and marks, processes with entries and locks, pins, and what
--- each actor is in the middle of.
-use Rattle.std.specs.Prelude.{ℕ, Bool, false, if◌then◌else◌, List, [], map, Option, None}
+-- The state of the core machine: frames with counts and marks, processes with entries, page tables and locks, pins, and
+-- what each actor is in the middle of.
+use Rattle.std.specs.Prelude.{ℕ, Bool, false, nat_lt, if◌then◌else◌, List, [], map, Option, None}
 use Rattle.gup_base.specs.declared.entry.Allowed.{Allowed}
 use Rattle.gup_base.specs.declared.entry.Entry.{Entry}
 use Rattle.gup_base.specs.declared.entry.Rights.{Rights}
+use Rattle.gup_spec_tables.specs.declared.place.Place.{Place}
 use Rattle.gup_plain.specs.State.{PlainState, Birth, Handle, Pending, Noted, born, unborn, unmade, named_or_zero}
 
 -- what a mover has read of the count of the frame that it took out of its entry
@@ -78,6 +79,11 @@ pub record CoreState : Type 0 where
   pub entry : ℕ → ℕ → Option Entry
   pub object : ℕ → ℕ → ℕ
   pub copied : ℕ → ℕ → ℕ → Bool
+  -- page tables: whether each is free, where it stands in the tree of a process, and which ones a process has taken out
+  -- of its tree, the longest ago first. A table's words follow from the tree: those of one that stands nowhere are 0.
+  pub free_table : ℕ → Bool
+  pub place : ℕ → ℕ → Option Place
+  pub retired : ℕ → List ℕ
   -- objects
   pub content : ℕ → ℕ → ℕ
   pub made : ℕ
@@ -118,9 +124,9 @@ plain_of s =
       slot = s.slot;
     }
 
--- the start: all frames are free and zero, and nothing is mapped
-abbrev pub core_start : (movable normal : ℕ) → (ℕ → Bool) → CoreState
-core_start movable normal is_born =
+-- the start: all frames and page tables are free and zero, and nothing is mapped
+abbrev pub core_start : (movable normal tables : ℕ) → (ℕ → Bool) → CoreState
+core_start movable normal tables is_born =
     record {
       movable = movable;
       normal = normal;
@@ -139,6 +145,9 @@ core_start movable normal is_born =
       entry = λ _ _. None;
       object = λ _ _. 0;
       copied = λ _ _ _. false;
+      free_table = λ table. nat_lt table tables;
+      place = λ _ _. None;
+      retired = λ _. [];
       content = λ _ _. 0;
       made = 0;
       handle = λ _. unmade;

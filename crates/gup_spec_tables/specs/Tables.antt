@@ -1,5 +1,5 @@
 -- Page tables in a tree: where each stands, and what its words are.
-use Rattle.std.specs.Prelude.{ℕ, ◌+◌, ◌-◌, ◌*◌, ◌/◌, ◌%◌, ◌^◌, ◌==◌, ◌&&◌, Bool, true, false, not, is_some, nat_lt, if◌then◌else◌, Option, None, Some, zero, suc}
+use Rattle.std.specs.Prelude.{◌≡◌, ℕ, ◌+◌, ◌-◌, ◌*◌, ◌/◌, ◌%◌, ◌^◌, ◌==◌, ◌&&◌, ◌||◌, Bool, true, false, not, is_some, nat_lt, if◌then◌else◌, List, [], ◌∷◌, Option, None, Some, zero, suc}
 use Rattle.gup_base.specs.Packing.{pack_of}
 use Rattle.gup_base.specs.declared.entry.Entry.{Entry}
 use Rattle.gup_plain.specs.Denial.{any_below}
@@ -106,3 +106,13 @@ if_empty v (Some table) = if is_empty v table then Some table else None
 -- the lowest table of the page's path, unless it is the root or has a word that isn't 0
 abbrev pub detachable : TreeValue → (page : ℕ) → Option ℕ
 detachable v page = if nat_lt (lacks v page) 3 then if_empty v (table_at v.place (on_path (lacks v page + 1) page)) else None
+
+-- is the number among these?
+abbrev pub is_among : List ℕ → (number : ℕ) → Bool
+is_among [] number = false
+is_among (first ∷ rest) number = number == first || is_among rest number
+
+-- no number stands there twice
+abbrev pub AreApart : List ℕ → Type 0
+AreApart [] = Unit {0}
+AreApart (first ∷ rest) = (is_among rest first ≡ false) × AreApart rest

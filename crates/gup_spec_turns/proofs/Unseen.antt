@@ -1,10 +1,11 @@
 -- Of mirrors only their slots are kept: what is filled in them changes nothing else, and so does emptying them before a turn.
 use Rattle.std.proofs.Common.{◌≡◌, ℕ, ◌+◌, Bool, true, false, List, [], ◌∷◌, ◌++◌, Option, refl, sym, ap, ◌∙◌, subst, zero, suc, if◌then◌else◌}
 use Rattle.gup_spec_events.specs.State.{CoreState}
-use Rattle.gup_spec_events.specs.Event.{CoreEvent, happens, run, take_frame, fill, count_one, set_mark, upgrade, break_entry, put_entry, raise_flag, pin_page, make_handle, unpin_page, give_handle, take_handle, get_reference, put_reference, clear_entry, count_moved, place_frame, restore_entry, begin_fork, count_page, share_entry, share_mark, share_child, copy_word, place_child, pass_page, end_fork, fail_fork, put_child, fail_unborn, map_pages, lower_entry, protect_pages, drop_entry, discard_entry, load, store, move_out, move_in, empty_mirror, fill_mirror, look, enter_walk, read_sequence, read_entry, grab_frame, miss_frame, recheck_same, recheck_other, read_mark, read_again, drop_grab, drop_last, drop_first, leave_walk}
+use Rattle.gup_spec_events.specs.Event.{CoreEvent, happens, run, take_frame, fill, count_one, set_mark, upgrade, break_entry, put_entry, raise_flag, pin_page, make_handle, unpin_page, give_handle, take_handle, get_reference, put_reference, clear_entry, count_moved, place_frame, restore_entry, begin_fork, count_page, share_entry, share_mark, share_child, copy_word, place_child, pass_page, end_fork, fail_fork, put_child, fail_unborn, map_pages, lower_entry, protect_pages, drop_entry, discard_entry, add_table, take_out, reclaim, load, store, move_out, move_in, empty_mirror, fill_mirror, look, enter_walk, read_sequence, read_entry, grab_frame, miss_frame, recheck_same, recheck_other, read_mark, read_again, drop_grab, drop_last, drop_first, leave_walk}
 use Rattle.gup_spec_turns.specs.CoreTurn.{CoreTurn}
 use Rattle.gup_spec_turns.specs.Emptying.{empties, is_stale, emptying}
 use Rattle.gup_script.specs.Limits.{most_mirrors}
+use Rattle.gup_spec_events.proofs.Runs.{run_behind}
 
 -- the state with these slots filled, and no others
 abbrev pub mirroring : (ℕ → Option ℕ) → CoreState → CoreState
@@ -51,6 +52,9 @@ happens_unseen filled s (lower_entry a p page f) = refl
 happens_unseen filled s (protect_pages a p page n rights) = refl
 happens_unseen filled s (drop_entry a p page was) = refl
 happens_unseen filled s (discard_entry a p page was) = refl
+happens_unseen filled s (add_table a p page table) = refl
+happens_unseen filled s (take_out a p page table) = refl
+happens_unseen filled s (reclaim a p) = refl
 happens_unseen filled s (load a p page word f value) = refl
 happens_unseen filled s (store a p page word f value) = refl
 happens_unseen filled s (move_out a h index slot f value) = refl
@@ -79,10 +83,6 @@ run_unseen filled s (e ∷ es) =
     let step : next ≡ mirroring next.mirrored (happens s e) = happens_unseen filled s e in
     subst (λ (t : CoreState). IsButFor (run (happens s e) es) (run t es)) (sym step) (run_unseen next.mirrored (happens s e) es)
 
-run_after : (s : CoreState) (before es : List CoreEvent) → run s (before ++ es) ≡ run (run s before) es
-run_after s [] es = refl
-run_after s (e ∷ before) es = run_after (happens s e) before es
-
 -- the emptying of slots changes nothing else
 pub empties_unseen : (s t : CoreState) (a : ℕ) (es : List CoreEvent) (m n : ℕ) → IsButFor s (run s (empties t a es m n))
 empties_unseen s t a es m zero = refl
@@ -98,7 +98,7 @@ emptying_unseen s a turn =
     let before : List CoreEvent = empties s a turn.events 0 most_mirrors in
     let t : CoreState = run s before in
     let at_front : t ≡ mirroring t.mirrored s = empties_unseen s s a turn.events 0 most_mirrors in
-    subst (λ (u : CoreState). IsButFor (run s turn.events) u) (sym (run_after s before turn.events))
+    subst (λ (u : CoreState). IsButFor (run s turn.events) u) (sym (run_behind s before turn.events))
     (subst (λ (u : CoreState). IsButFor (run s turn.events) (run u turn.events)) (sym at_front) (run_unseen t.mirrored s turn.events))
 
 -- so whatever doesn't read them is the same

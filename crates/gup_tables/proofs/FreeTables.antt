@@ -1,8 +1,9 @@
 -- How many tables of a pool are free.
-use Rattle.std.proofs.Common.{◌≡◌, ℕ, zero, suc, ◌+◌, ◌-◌, ◌<◌, ◌≤◌, ◌==◌, Bool, true, false, if◌then◌else◌, List, Some, refl, ap, arith, sym, ◌∙◌}
+use Rattle.std.proofs.Common.{◌≡◌, ℕ, zero, suc, ◌+◌, ◌-◌, ◌<◌, ◌≤◌, ◌==◌, Bool, true, false, if◌then◌else◌, List, Some, None, refl, ap, arith, sym, ◌∙◌}
 use Rattle.gup_plain.specs.Put.{put, lowest}
-use Rattle.gup_plain.proofs.Sums.{passing, one_more_passing}
-use Rattle.gup_bits.proofs.Lowest.{lowest_some}
+use Rattle.std.proofs.lemmas.Bool.Decides.{nat_tests}
+use Rattle.gup_plain.proofs.Sums.{passing, none_passing, one_more_passing, same_passing}
+use Rattle.gup_bits.proofs.Lowest.{lowest_some, lowest_absent}
 use Rattle.gup_bits.specs.Bits.{has, room_of}
 use Rattle.gup_tables.specs.Pool.{IsKept}
 use Rattle.gup_tables.proofs.Places.{put_same, put_other}
@@ -26,6 +27,20 @@ few_passing (suc n) test =
     one_at_most : (b : Bool) → (if b then 1 else 0) ≤ 1
     one_at_most true = omega arith
     one_at_most false = omega arith
+
+-- where none is the lowest that passes, none passes
+pub none_lowest : (n : ℕ) (test : ℕ → Bool) → lowest 0 n test ≡ None → passing n test ≡ 0
+none_lowest n test none =
+    same_passing n test (λ k. false) (λ k less. lowest_absent 0 n test none k (omega arith) (omega (arith, less)))
+    ∙ none_passing n (λ k. false) (λ k. refl)
+
+-- one that passes
+pub some_passing : (n : ℕ) (test : ℕ → Bool) (k : ℕ) → k < n → test k ≡ true → 0 < passing n test
+some_passing n test k less is =
+    let same : (j : ℕ) → (j == k) ≡ false → test j ≡ put k false test j = λ j other. rw other refl in
+    let gone : put k false test k ≡ false = let own : (k == k) ≡ true = grind (arith, nat_tests) in rw own refl in
+    let more = one_more_passing n (put k false test) test k less gone is same in
+    omega (arith, more)
 
 -- the lowest that is free
 pub found_free : (set : List ℕ) (tables table : ℕ) → Some table ≡ lowest 0 tables (has set) → (table < tables) × (has set table ≡ true)

@@ -16,3 +16,4 @@ pub mod TreeAdded
 pub mod TreeDetached
 pub mod TreeGrown
 pub mod TreeSet
+pub mod Detachable

@@ -1,5 +1,5 @@
 -- A case an event, each from the crate of its group.
-use Rattle.gup_spec_events.specs.Event.{take_frame, fill, count_one, set_mark, upgrade, break_entry, put_entry, map_pages, lower_entry, protect_pages, drop_entry, discard_entry, load, store, move_out, move_in, empty_mirror, fill_mirror, look, raise_flag, pin_page, make_handle, unpin_page, give_handle, take_handle, get_reference, put_reference, clear_entry, count_moved, place_frame, restore_entry, begin_fork, count_page, share_entry, share_mark, share_child, pass_page, copy_word, place_child, end_fork, fail_fork, put_child, fail_unborn, enter_walk, read_sequence, read_entry, grab_frame, miss_frame, recheck_same, recheck_other, read_mark, read_again, drop_grab, drop_last, drop_first, leave_walk}
+use Rattle.gup_spec_events.specs.Event.{take_frame, fill, count_one, set_mark, upgrade, break_entry, put_entry, map_pages, lower_entry, protect_pages, drop_entry, discard_entry, add_table, take_out, reclaim, load, store, move_out, move_in, empty_mirror, fill_mirror, look, raise_flag, pin_page, make_handle, unpin_page, give_handle, take_handle, get_reference, put_reference, clear_entry, count_moved, place_frame, restore_entry, begin_fork, count_page, share_entry, share_mark, share_child, pass_page, copy_word, place_child, end_fork, fail_fork, put_child, fail_unborn, enter_walk, read_sequence, read_entry, grab_frame, miss_frame, recheck_same, recheck_other, read_mark, read_again, drop_grab, drop_last, drop_first, leave_walk}
 use Rattle.gup_law_events.proofs.simulates.Goals as goal
 
 pub returns : goal.returns
@@ -15,6 +15,9 @@ returns c s (lower_entry a p page f) sound can = c.mappings_simulate.ensures.low
 returns c s (protect_pages a p page n rights) sound can = c.mappings_simulate.ensures.protect_pages a p page n rights s sound can
 returns c s (drop_entry a p page was) sound can = c.mappings_simulate.ensures.drop_entry a p page was s sound can
 returns c s (discard_entry a p page was) sound can = c.mappings_simulate.ensures.discard_entry a p page was s sound can
+returns c s (add_table a p page table) sound can = c.tables_simulate.ensures.add_table a p page table s sound can
+returns c s (take_out a p page table) sound can = c.tables_simulate.ensures.take_out a p page table s sound can
+returns c s (reclaim a p) sound can = c.tables_simulate.ensures.reclaim a p s sound can
 returns c s (load a p page word f value) sound can = c.data_simulates.ensures.load a p page word f value s sound can
 returns c s (store a p page word f value) sound can = c.data_simulates.ensures.store a p page word f value s sound can
 returns c s (move_out a h index slot f value) sound can = c.data_simulates.ensures.move_out a h index slot f value s sound can

@@ -1,8 +1,8 @@
 use Rattle.std.proofs.Common.{◌≡◌, ℕ, ◌<◌, true, false, length}
 use Rattle.gup_tables.specs.Pool.{pool_of}
-use Rattle.gup_page_tables.specs.PageTables.{is_among, freed_by, cleared}
-use Rattle.gup_page_tables.specs.Kept.{AreApart}
+use Rattle.gup_page_tables.specs.PageTables.{freed_by, cleared}
 use Rattle.gup_page_tables.proofs.page_tables.reclaim_all.Given as goal
+use Rattle.gup_spec_tables.specs.Tables.{is_among, AreApart}
 
 -- what comes of reclaiming what is left is what comes of reclaiming all
 abbrev pub invariant-loop-table : goal.invariant-loop-table

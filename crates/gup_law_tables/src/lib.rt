@@ -1,0 +1,41 @@
+//! The law of page tables: whatever the order of events, a table has one owner, and none that a walk may be inside of is used again.
+//! A page gets all the tables that it lacks, or none; and no empty table is left on the path of one that is retired, but for the root.
+#![tactic(auto)]
+
+ghost use Rattle.std.specs.Prelude.{◌≡◌, ℕ, ◌<◌, ◌≤◌, ◌==◌, true, Bool, List, None, IsSome};
+ghost use Rattle.gup_plain.specs.Event.{page_numbers};
+ghost use Rattle.gup_spec_tables.specs.Tables.{table_numbers, lacks, detachable};
+ghost use Rattle.gup_spec_events.specs.State.{CoreState, core_start};
+ghost use Rattle.gup_spec_events.specs.Event.{CoreEvent, Can, happens, run, tree_in, MayShape};
+ghost use Rattle.gup_spec_events.specs.Growth.{grows, has_enough, reclaims, retires};
+ghost use Rattle.gup_spec_events.specs.Invariant.{AllCan};
+ghost use Rattle.gup_law_tables.specs.Standing.{TablesStand, has_table, IsButForTables};
+
+/// Each process has a tree of tables, and each table is free or of one process, which has it in its tree or has taken it out of
+/// that. An event leaves it so, and from the start on it is so after whatever events, each when it can happen.
+pub fn tables_stand()
+    ensures event { (s : CoreState) (e : CoreEvent) → TablesStand s → Can s e → TablesStand (happens s e) }
+    ensures run { (movable normal tables : ℕ) (is_born : ℕ → Bool) (es : List CoreEvent) → tables ≤ table_numbers → AllCan (core_start movable normal tables is_born) es → TablesStand (run (core_start movable normal tables is_born) es) }
+{}
+
+/// While a walk of a process runs, the process keeps each table that it has: such a table may leave the tree, and is then kept
+/// back. So no table that the walk may be inside of is free.
+pub fn walks_keep_tables()
+    ensures { (s : CoreState) (e : CoreEvent) (p table : ℕ) → Can s e → (s.walks p ≡ 0 → ⊥) → has_table s p table ≡ true → has_table (happens s e) p table ≡ true }
+{}
+
+/// A page of a process whose tables an actor may change gets the tables that it lacks exactly where as many are free, after those
+/// that the process has taken out have come free, unless a walk of it runs. Nothing but tables changes.
+pub fn tables_grow()
+    ensures can { (s : CoreState) (a p page : ℕ) → TablesStand s → MayShape s a p → IsSome (s.right p page) → page < page_numbers → AllCan s (grows s a p page) }
+    ensures complete { (s : CoreState) (a p page : ℕ) → TablesStand s → MayShape s a p → IsSome (s.right p page) → page < page_numbers → (lacks (tree_in (run s (grows s a p page)) p) page == 0) ≡ has_enough (run s (reclaims s a p)) p page }
+    ensures others { (s : CoreState) (a p page : ℕ) → IsButForTables s (run s (grows s a p page)) }
+{}
+
+/// The empty tables of a page's path are taken out of the tree, all but the root, and come free unless a walk of the process runs.
+/// Nothing but tables changes.
+pub fn tables_shrink()
+    ensures can { (s : CoreState) (a p page : ℕ) → MayShape s a p → AllCan s (retires s a p page) }
+    ensures all { (s : CoreState) (a p page : ℕ) → TablesStand s → MayShape s a p → detachable (tree_in (run s (retires s a p page)) p) page ≡ None }
+    ensures others { (s : CoreState) (a p page : ℕ) → IsButForTables s (run s (retires s a p page)) }
+{}
