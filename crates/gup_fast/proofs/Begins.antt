@@ -23,7 +23,7 @@ begins F S S' w w' none walk space s a p old_frames old_space old_walk =
     let after : CoreState = run s (flags a p w) in (
       record { movable = old_frames.movable; normal = old_frames.normal; count = old_frames.count; mark = old_frames.mark; word = old_frames.word },
       subst (λ (x : SpaceValue). ShowsSpace p x after) (sym space)
-          (record { right = old_space.right; pages = old_space.pages; entry = old_space.entry; sequence = old_space.sequence; has_pinned = own p true s.has_pinned; structure = old_space.structure; table = old_space.table }),
+          (record { right = old_space.right; pages = old_space.pages; entry = old_space.entry; sequence = old_space.sequence; has_pinned = own p true s.has_pinned; structure = old_space.structure; table = old_space.table; walks = old_space.walks }),
       subst (λ (x : WalkValue). ShowsWalk a p x after) (sym walk)
           (record { job = rw none (own a _ s.job); taken = old_walk.taken }),
     )

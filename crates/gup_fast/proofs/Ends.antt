@@ -58,7 +58,7 @@ last_goes F S w s a p (t ∷ taken) some frames space =
     (rw parts.frame
     (rw parts.frames (
       record { movable = dropped.movable; normal = dropped.normal; count = dropped.count; mark = dropped.mark; word = dropped.word },
-      record { right = space.right; pages = space.pages; entry = space.entry; sequence = space.sequence; has_pinned = space.has_pinned; structure = space.structure; table = space.table },
+      record { right = space.right; pages = space.pages; entry = space.entry; sequence = space.sequence; has_pinned = space.has_pinned; structure = space.structure; table = space.table; walks = space.walks },
       record { job = own a _ s.job; taken = ap taken_frames (own a parts.others s.taken) },
     )))
 
@@ -71,7 +71,7 @@ first_goes F S w s a p [] some frames space = absurd (omega (arith, some))
 first_goes F S w s a p (t ∷ []) some frames space =
     let dropped : ShowsFrames (without_references t.frame 1024 F) (core_without t.frame 1024 s) = without_pin F s t.frame frames in (
       record { movable = dropped.movable; normal = dropped.normal; count = dropped.count; mark = dropped.mark; word = dropped.word },
-      record { right = space.right; pages = space.pages; entry = space.entry; sequence = space.sequence; has_pinned = space.has_pinned; structure = space.structure; table = space.table },
+      record { right = space.right; pages = space.pages; entry = space.entry; sequence = space.sequence; has_pinned = space.has_pinned; structure = space.structure; table = space.table; walks = space.walks },
       record {
         job = own a idle (happens s (drop_first a p w.want.write w.want.long w.sequence t [])).job;
         taken = ap taken_frames (own a [] s.taken);
@@ -80,7 +80,7 @@ first_goes F S w s a p (t ∷ []) some frames space =
 first_goes F S w s a p (t ∷ u ∷ taken) some frames space =
     let dropped : ShowsFrames (without_references t.frame 1024 F) (core_without t.frame 1024 s) = without_pin F s t.frame frames in (
       record { movable = dropped.movable; normal = dropped.normal; count = dropped.count; mark = dropped.mark; word = dropped.word },
-      record { right = space.right; pages = space.pages; entry = space.entry; sequence = space.sequence; has_pinned = space.has_pinned; structure = space.structure; table = space.table },
+      record { right = space.right; pages = space.pages; entry = space.entry; sequence = space.sequence; has_pinned = space.has_pinned; structure = space.structure; table = space.table; walks = space.walks },
       record { job = own a _ s.job; taken = ap taken_frames (own a (u ∷ taken) s.taken) },
     )
 
@@ -106,7 +106,7 @@ leads F S w s a p (at over) taken fits is job frames space = (frames, space, rec
 leads F S w s a p (at (differed f)) taken fits is job frames space =
     let dropped : ShowsFrames (without_references f 1024 F) (core_without f 1024 s) = without_pin F s f frames in (
       record { movable = dropped.movable; normal = dropped.normal; count = dropped.count; mark = dropped.mark; word = dropped.word },
-      record { right = space.right; pages = space.pages; entry = space.entry; sequence = space.sequence; has_pinned = space.has_pinned; structure = space.structure; table = space.table },
+      record { right = space.right; pages = space.pages; entry = space.entry; sequence = space.sequence; has_pinned = space.has_pinned; structure = space.structure; table = space.table; walks = space.walks },
       record { job = own a _ s.job; taken = is },
     )
 leads F S w s a p (at refused) taken fits is job frames space =

@@ -91,6 +91,7 @@ module _ (m n : Imaged) (both : AreOfOne m n) (to : AreSaid (IsTrueOf n) m) (bac
           has_pinned = shows.has_pinned ∙ process_same.has_pinned;
           structure = shows.structure ∙ process_same.structure;
           table = shows.table ∙ process_same.table;
+          walks = shows.walks ∙ process_same.walks;
         }
 
   -- ---- handles, mirror slots

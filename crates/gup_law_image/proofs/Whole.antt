@@ -120,7 +120,7 @@ module _ (m : Imaged) where
   process_is : (x y : SpaceParts) → x ≡ y → IsProcess (space_of y) (space_of x).has_pinned (space_of x).structure (space_of x).table (space_of x).pages (space_of x).sequence
   process_is x y same =
       subst (λ (s : SpaceParts). IsProcess (space_of s) (space_of x).has_pinned (space_of x).structure (space_of x).table (space_of x).pages (space_of x).sequence) same
-      (record { has_pinned = refl; structure = refl; table = refl; pages = refl; sequence = refl })
+      (record { has_pinned = refl; structure = refl; table = refl; pages = refl; sequence = refl; walks = refl })
 
   page_is : (x y : SpaceParts) → x ≡ y → (page : ℕ) (rights : Rights) → (space_of x).right page ≡ Some rights → IsPage (space_of y) rights ((space_of x).entry page) page
   page_is x y same page rights is =

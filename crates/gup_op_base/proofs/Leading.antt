@@ -52,6 +52,7 @@ has_space F S p =
       has_pinned = refl;
       structure = refl;
       table = refl;
+      walks = refl;
     }
 
 -- a clause on the one side of a result, where it is on that side
