@@ -275,6 +275,10 @@ walks_after old new walks = walks
 abbrev pub counted_in : (space : SpaceValue) → (old new : Stage) → (walks : ℕ) → SpaceValue
 counted_in space old new walks = record space { walks = walks_after old new walks }
 
+-- and after a step of a walk that runs, which leads there
+abbrev pub left_in : (space : SpaceValue) → Stage → (walks : ℕ) → SpaceValue
+left_in space new walks = record space { walks = walks_left new walks }
+
 -- In whatever state the frames, the process and the walk stand, and whoever holds a lock: these events of its actor lead from
 -- what was to what is. How many walks run in the process is the caller's to count.
 abbrev pub AreWalkEvents : Change → (old new : WalkValue) → (events : CoreState → (a p : ℕ) → List CoreEvent) → Type 0
