@@ -28,7 +28,7 @@ module _ (filled : ℕ → Option ℕ) (s : CoreState) where
         frames = record { movable = f.movable; normal = f.normal; count = f.count; mark = f.mark; word = f.word };
         spaces = λ p space here.
             let x = h.spaces p space here in
-            record { right = x.right; pages = x.pages; entry = x.entry; sequence = x.sequence; has_pinned = x.has_pinned; structure = x.structure; table = x.table };
+            record { right = x.right; pages = x.pages; entry = x.entry; sequence = x.sequence; has_pinned = x.has_pinned; structure = x.structure; table = x.table; walks = x.walks };
         births = h.births;
         pins = h.pins;
         taken = h.taken;

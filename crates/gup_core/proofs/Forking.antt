@@ -87,7 +87,7 @@ fork_leave_pins a p c s es own = through (IsForking a p c) pins_of (λ x e is. f
 forking_leaves : (a p c q : ℕ) (space : SpaceValue) (s : CoreState) {e : CoreEvent} → (p ≡ q → ⊥) → (c ≡ q → ⊥) → IsForking a p c e → ShowsSpace q space s → ShowsSpace q space (happens s e)
 forking_leaves a p c q space s parent child (forks e own) h = leaves_others a p c q space s parent child own h
 forking_leaves a p c q space s parent child (takes f) h =
-    record { right = h.right; pages = h.pages; entry = h.entry; sequence = h.sequence; has_pinned = h.has_pinned; structure = h.structure; table = h.table }
+    record { right = h.right; pages = h.pages; entry = h.entry; sequence = h.sequence; has_pinned = h.has_pinned; structure = h.structure; table = h.table; walks = h.walks }
 
 pub fork_leaves_others : (a p c q : ℕ) (space : SpaceValue) (s : CoreState) (es : List CoreEvent) → (p ≡ q → ⊥) → (c ≡ q → ⊥) → AreForking a p c es → ShowsSpace q space s → ShowsSpace q space (run s es)
 fork_leaves_others a p c q space s [] parent child own h = h

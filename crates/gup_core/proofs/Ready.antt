@@ -140,6 +140,11 @@ is_ready m a proc seat op stand machine rest of_a here present ready unfailed p 
           to_pin (frames_of m.parts.frames) pages.items (page + length pages.items) n want (fast && seat.far == 0) a (place_of seat.job) (space_of space)
           (λ place slow unheld. table_free true a (space_of space).structure (space_of space).table unheld.1 (kept place slow ∙ locks_free r.core a own far op born_free.1) refl)
           (rest.pins a handle page n want fast seat space pages here (present ∙ ap (λ (x : Op). Some x) is) (ap (λ k. slice_get m.parts.spaces.items k) mine ∙ found) taken);
+      few_walks = λ q space there. let walks = rest.few_walks q space there in omega arith;
+      walk = λ space handle page n want fast is there.
+          let mine : process_of m.script a ≡ own = ap (λ (x : Op). (doer_of m.script a (Some x)).proc) (sym is) in
+          rest.walks a handle page n want fast seat space here (present ∙ ap (λ (x : Op). Some x) is)
+          (ap (λ k. slice_get m.parts.spaces.items k) (mine ∙ same (subst HasProcess (sym is) tt)) ∙ there);
       weighed = rest.weighed;
       referred = rest.referred;
       yet = λ handle makes. rest.yet a handle op seat here present makes;

@@ -132,6 +132,7 @@ space_left a p op q space s (fails_too child is) unmapped h =
       has_pinned = h.has_pinned;
       structure = h.structure;
       table = h.table;
+      walks = h.walks;
     }
   where
     none : q ≡ child → (g : ℕ) → at space.rights g ≡ None

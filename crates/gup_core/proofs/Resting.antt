@@ -35,7 +35,7 @@ use Rattle.gup_law_turns.proofs.PinPace.{pin_left}
 use Rattle.gup_law_turns.specs.Standing.{IsStanding, StandsHandle, given_back, back_in}
 use Rattle.gup_op_base.specs.Far.{HasFar}
 use Rattle.gup_op_fork.specs.Forked.{IsCountedIn, IsCopyOf, IsReadyAt}
-use Rattle.gup_op_pins.specs.Pins.{IsReferred, IsWithinPin, IsPinnedFrame, IsReadyToWalk, frames_in}
+use Rattle.gup_op_pins.specs.Pins.{IsReferred, IsCountedWalk, IsWithinPin, IsPinnedFrame, IsReadyToWalk, frames_in}
 use Rattle.gup_fast.specs.Walks.{first_of, last_of}
 use Rattle.gup_op_move.specs.Moving.{IsReadyToMove}
 use Rattle.gup_spec_turns.specs.PinPlace.{StandsPin, HasTaken, HasPages, IsWithin, IsAtStep, IsWalkingPin, StandsAtPage as IsAtPage}
@@ -234,6 +234,20 @@ within_pin n got (moving q g e allowed count) prepared h = h
 within_pin n got (walking q write long sequence step) prepared h = h
 within_pin n got job prepared h = h
 
+-- a pin that walks is counted among the walks of its process
+counted_walk : (s : CoreState) (S : SpaceValue) (a p page n got : ℕ) (want : Want) (fast : Bool) → ShowsSpace p S s
+    → ((q sequence : ℕ) (write long : Bool) (step : WalkStep) → s.job a ≡ walking q write long sequence step → 0 < s.walks q)
+    → IsAtPage s a p page n got want fast (s.job a) → IsCountedWalk (place_in s a) S
+counted_walk s S a p page n got want fast space runs at = go (s.job a) (s.prepared a) refl at
+  where
+    go : (job : Job) (prepared : Option ℕ) → s.job a ≡ job → IsAtPage s a p page n got want fast job → IsCountedWalk (job_place job prepared) S
+    go idle prepared is h = tt
+    go (moving q g e allowed count) prepared is h = tt
+    go (walking q write long sequence step) prepared is h =
+        let some : 0 < s.walks p = subst (λ (k : ℕ). 0 < s.walks k) h.of (runs q sequence write long step is) in
+        subst (λ (k : ℕ). 0 < k) space.walks some
+    go job prepared is h = absurd h
+
 -- ---- actors
 
 far_fits : (script : ScriptValue) (r : RunState) (a : ℕ) (seat : Seat) (op : Op) → IsStanding script r → IsSeat (Some op) (r.places a) seat → present_op script a (r.places a) ≡ Some op → HasFar op seat.far
@@ -376,6 +390,12 @@ at_rest m valid is there stand =
       mirrored = mirrored_there r.core (frames_of m.parts.frames) (mirrors_of m.mirrors) h.sound h.counted there parts.frames shown.mirrors;
       tidy = λ p space here. tidy_in m.script r (frames_of m.parts.frames) (space_of space) p valid h there parts.frames (parts.spaces p space here);
       few_forks = λ p space here. subst (λ (k : ℕ). k ≤ 32) (parts.spaces p space here).sequence (h.few_forks p);
+      few_walks = λ p space here. subst (λ (k : ℕ). k ≤ 81) (parts.spaces p space here).walks (h.few_walks p);
+      walks = λ a handle page n want fast seat space sits op space_is.
+          let at = h.pins a handle page n want fast (op_there m r a seat (Some (Pin handle page n want fast)) shown sits op) in
+          let got : ℕ = length (r.core.taken a) in
+          subst (λ (k : JobPlace). IsCountedWalk k (space_of space)) (sym (shown.jobs a seat sits))
+          (counted_walk r.core (space_of space) a (process_of m.script a) (page + got) n got want fast (parts.spaces (process_of m.script a) space space_is) (λ q sequence write long step is. h.walks a q sequence write long step is) at.at);
       few_counts = λ f. subst (λ (k : ℕ). k ≤ 16 * page_numbers + most_handles + 81 + bias * 17761) (parts.frames.count f) (h.few_counts f);
       unlocked = λ p a space seat here sits single.
           idle_unlocked r.core (space_of space) p a h.sound (h.idle_jobs a (subst KeepsNoJob (sym (op_there m r a seat (op_of_seat m a seat) shown sits refl)) single)) (parts.spaces p space here);

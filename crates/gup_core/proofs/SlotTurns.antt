@@ -140,7 +140,7 @@ copied_mirrors parts a proc far op job copy mirrors unfailed within copies s who
 -- the filling of a slot leaves processes
 space_filled : (q : ℕ) (space : SpaceValue) (t : CoreState) (a m p page f : ℕ) (writable : Bool) → ShowsSpace q space t → ShowsSpace q space (happens t (fill_mirror a m p page f writable))
 space_filled q space t a m p page f writable x =
-    record { right = x.right; pages = x.pages; entry = x.entry; sequence = x.sequence; has_pinned = x.has_pinned; structure = x.structure; table = x.table }
+    record { right = x.right; pages = x.pages; entry = x.entry; sequence = x.sequence; has_pinned = x.has_pinned; structure = x.structure; table = x.table; walks = x.walks }
 
 module _ (old new : Parts) (a p m page : ℕ) (op : Op) (place : JobPlace) (others : ℕ → Place) (left : ℕ → List TakenPage) (y : SpaceParts) (mirrors : List (Option Filled)) (whats : List What) (s : CoreState)
     (births : new.births ≡ old.births) (handles : new.handles ≡ old.handles) (taken : new.taken ≡ old.taken) (stores : new.stores ≡ old.stores)

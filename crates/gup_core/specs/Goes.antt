@@ -25,7 +25,7 @@ use Rattle.gup_op_base.specs.Jobs.{place_of}
 use Rattle.gup_op_fork.specs.Forked.{IsReadyAt}
 use Rattle.gup_op_pins.specs.Pins.{IsReferred, IsWeighed}
 use Rattle.gup_op_move.specs.Moving.{IsReadyToMove}
-use Rattle.gup_op_pins.specs.Pins.{IsReadyToPin, IsWithinPin, EndAt, last_page}
+use Rattle.gup_op_pins.specs.Pins.{IsReadyToPin, IsCountedWalk, IsWithinPin, EndAt, last_page}
 use Rattle.gup_op_pins.specs.Held.{slots_in}
 use Rattle.gup_op_base.specs.Tidy.{IsTidy, needs_table}
 use Rattle.gup_op_waits.specs.declared.births.Birth.{Birth}
@@ -107,8 +107,9 @@ IsSingle (Fork child) = ⊥
 IsSingle op = Unit {0}
 
 -- What a turn of an operation needs that has gone so far, and whose job stands there: its numbers are in range, it is of
--- process p where it is of one, each process is tidy, counts are small, nobody holds a lock that it needs, pins have
--- the weight of their pages and references that of theirs, and the handle that it makes is unmade. No pin is in a walk.
+-- process p where it is of one, each process is tidy, counts are small and so are the walks that run, a pin that walks is one of
+-- these, nobody holds a lock that it needs, pins have the weight of their pages and references that of theirs, and the handle
+-- that it makes is unmade.
 pub record IsReady (parts : Parts) (a p : ℕ) (op : Op) (gone : ℕ) (place : JobPlace) : Type 0 where
   pub there : HasProcess op → p < length parts.spaces.items
   pub tidy : EachSpace (IsTidy (frames_of parts.frames)) parts.spaces.items
@@ -123,6 +124,8 @@ pub record IsReady (parts : Parts) (a p : ℕ) (op : Op) (gone : ℕ) (place : J
   pub yet : (handle : ℕ) → made_by op ≡ Some handle → handles_of parts.handles handle ≡ unmade
   pub taken : (pages : ArrayVec ℕ) (handle page n : ℕ) (want : Want) (fast : Bool) → slice_get parts.taken.items a ≡ Some pages → op ≡ Pin handle page n want fast → IsWithinPin n (length pages.items) (place_of place)
   pub pin : (space : SpaceParts) (pages : ArrayVec ℕ) (handle page n : ℕ) (want : Want) (fast : Bool) → op ≡ Pin handle page n want fast → slice_get parts.spaces.items p ≡ Some space → slice_get parts.taken.items a ≡ Some pages → IsReadyToPin (frames_of parts.frames) pages.items (page + length pages.items) n want (fast && gone == 0) (place_of place) (space_of space)
+  pub few_walks : EachSpace (λ space. space.walks < 2 ^ 40) parts.spaces.items
+  pub walk : (space : SpaceParts) (handle page n : ℕ) (want : Want) (fast : Bool) → op ≡ Pin handle page n want fast → slice_get parts.spaces.items p ≡ Some space → IsCountedWalk (place_of place) (space_of space)
   pub given : (handle : ℕ) → op ≡ Take handle → IsKeptFor (handles_of parts.handles handle) a
   pub actor_taken : a < length parts.taken.items
   pub actor_store : a < length parts.stores.items

@@ -21,7 +21,7 @@ use Rattle.gup_op_base.specs.Jobs.{place_of}
 use Rattle.gup_op_fork.specs.Forked.{IsReadyAt}
 use Rattle.gup_op_pins.specs.Pins.{IsReferred, IsWeighed}
 use Rattle.gup_op_move.specs.Moving.{IsReadyToMove}
-use Rattle.gup_op_pins.specs.Pins.{IsCleared, IsReadyToWalk, IsWithinPin}
+use Rattle.gup_op_pins.specs.Pins.{IsCleared, IsReadyToWalk, IsCountedWalk, IsWithinPin}
 use Rattle.gup_op_base.specs.Tidy.{IsTidy}
 use Rattle.gup_op_waits.specs.declared.seats.Seat.{Seat}
 use Rattle.gup_core.specs.Machine.{MachineValue}
@@ -43,7 +43,8 @@ IsReadyPin frames taken page n want a (moving_page g e count) space = (g ≡ pag
 IsReadyPin frames taken page n want a (in_walk sequence step) space = IsAtStep page n (length taken) step × IsReadyToWalk frames taken step
 IsReadyPin frames taken page n want a place space = ⊥
 
--- Its script is one, and it has its parts and a seat for each actor. Each process is tidy; counts and sequences are small. An
+-- Its script is one, and it has its parts and a seat for each actor. Each process is tidy; counts and sequences are small, and so
+-- are the walks that run in a process, of which each actor's walk is one. An
 -- actor that does no fork and no move holds no lock, what a fork has counted it can share or copy, a page that a move has cleared
 -- is mapped, and what a pin has taken are its first pages. No actor has answered more operations than it has, and one that
 -- goes over pages or words stands at one of them, a pin at one of its turns. Pins have the weight of their pages and references that of theirs,
@@ -54,6 +55,7 @@ pub record IsAtRest (m : MachineValue) : Type 0 where
   pub seats : length m.seats ≡ length m.script.actors
   pub tidy : EachSpace (IsTidy (frames_of m.parts.frames)) m.parts.spaces.items
   pub few_forks : EachSpace (λ space. space.sequence ≤ 32) m.parts.spaces.items
+  pub few_walks : EachSpace (λ space. space.walks ≤ 81) m.parts.spaces.items
   pub few_counts : (f : ℕ) → (frames_of m.parts.frames).count f ≤ 16 * page_numbers + most_handles + 81 + bias * 17761
   pub unlocked : (p a : ℕ) (space : SpaceParts) (seat : Seat) → slice_get m.parts.spaces.items p ≡ Some space → slice_get m.seats a ≡ Some seat → KeepsNoJob (op_of_seat m a seat) → HoldsNoLock (space_of space) a
   pub forks : (a child : ℕ) (seat : Seat) (parent kid : SpaceParts) → slice_get m.seats a ≡ Some seat → op_of_seat m a seat ≡ Some (Fork child) → slice_get m.parts.spaces.items (process_of m.script a) ≡ Some parent → slice_get m.parts.spaces.items child ≡ Some kid → IsReadyAt (frames_of m.parts.frames) a (place_of seat.job) (space_of parent) (space_of kid)
@@ -66,3 +68,4 @@ pub record IsAtRest (m : MachineValue) : Type 0 where
   pub yet : (a handle : ℕ) (op : Op) (seat : Seat) → slice_get m.seats a ≡ Some seat → op_of_seat m a seat ≡ Some op → made_by op ≡ Some handle → handles_of m.parts.handles handle ≡ unmade
   pub taken : (a handle page n : ℕ) (want : Want) (fast : Bool) (seat : Seat) (pages : ArrayVec ℕ) → slice_get m.seats a ≡ Some seat → slice_get m.parts.taken.items a ≡ Some pages → op_of_seat m a seat ≡ Some (Pin handle page n want fast) → IsWithinPin n (length pages.items) (place_of seat.job)
   pub pins : (a handle page n : ℕ) (want : Want) (fast : Bool) (seat : Seat) (space : SpaceParts) (pages : ArrayVec ℕ) → slice_get m.seats a ≡ Some seat → op_of_seat m a seat ≡ Some (Pin handle page n want fast) → slice_get m.parts.spaces.items (process_of m.script a) ≡ Some space → slice_get m.parts.taken.items a ≡ Some pages → IsReadyPin (frames_of m.parts.frames) pages.items (page + length pages.items) n want a (place_of seat.job) (space_of space)
+  pub walks : (a handle page n : ℕ) (want : Want) (fast : Bool) (seat : Seat) (space : SpaceParts) → slice_get m.seats a ≡ Some seat → op_of_seat m a seat ≡ Some (Pin handle page n want fast) → slice_get m.parts.spaces.items (process_of m.script a) ≡ Some space → IsCountedWalk (place_of seat.job) (space_of space)

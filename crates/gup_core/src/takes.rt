@@ -20,7 +20,7 @@ ghost use Rattle.gup_op_base.specs.Far.{HasFar, far_in};
 ghost use Rattle.gup_op_base.specs.Jobs.{place_of};
 ghost use Rattle.gup_op_fork.specs.Forked.{is_over, place_after, birth_after, IsReadyAt, ShowsForking, StandsAsFork, forking_view};
 ghost use Rattle.gup_op_move.specs.Moving.{IsReadyToMove, is_over as is_moved};
-ghost use Rattle.gup_op_pins.specs.Pins.{IsWeighed, IsReadyToPin, IsWithinPin, IsPinTurn, ShowsPinning, pinning_view};
+ghost use Rattle.gup_op_pins.specs.Pins.{IsWeighed, IsReadyToPin, IsCountedWalk, IsWithinPin, IsPinTurn, ShowsPinning, pinning_view};
 ghost use Rattle.gup_op_pins.specs.Held.{ShowsHeld, held_view, slots_in};
 ghost use Rattle.gup_op_devices.specs.Transfers.{IsWhole};
 ghost use Rattle.gup_op_base.specs.Said.{TellsTurn, whats_of};
@@ -241,6 +241,9 @@ fn take_pin(
         → slice_get parts.old.taken.items head.now.actor ≡ Some pages
         → IsReadyToPin (frames_of parts.old.frames) pages.items (page + length pages.items) n want
         (fast && far == 0) (place_of job.old) (space_of space) }
+    requires few_walks { EachSpace (λ space. space.walks < 2 ^ 40) parts.old.spaces.items }
+    requires counted { (space : SpaceParts) → slice_get parts.old.spaces.items proc ≡ Some space
+        → IsCountedWalk (place_of job.old) (space_of space) }
     requires few { (f : ℕ) → (frames_of parts.old.frames).count f < 2 ^ 40 }
     requires unmade { handles_of parts.old.handles handle ≡ unmade }
     requires taken { (pages : ArrayVecValue ℕ) → slice_get parts.old.taken.items head.now.actor ≡ Some pages

@@ -1,32 +1,36 @@
 -- A page of a walk: its frame is grabbed, and its entry read again.
 use Rattle.std.specs.Prelude.{◌≡◌, ℕ, ◌+◌, zero, suc, Bool, true, false, if◌then◌else◌, List, [], ◌∷◌, ◌++◌, length, Option, Some}
-use Rattle.std.proofs.Common.{refl, ap, subst, ◌∙◌, arith}
+use Rattle.std.proofs.Common.{refl, sym, ap, subst, ◌∙◌, arith}
 use Rattle.std.proofs.lemmas.List.{length-append, map-append}
 use Rattle.std.proofs.lemmas.Bool.Decides.{nat_tests}
 use Rattle.gup_base.specs.declared.entry.Entry.{Entry}
 use Rattle.gup_frames.specs.Frames.{FramesValue}
 use Rattle.gup_space.specs.Space.{SpaceValue}
-use Rattle.gup_spec_events.specs.State.{Taken, grabbed, rechecked, differed}
+use Rattle.gup_spec_events.specs.State.{Taken, WalkStep, read, grabbed, rechecked, differed}
 use Rattle.gup_spec_events.specs.Event.{taken_frames, recheck_same, recheck_other}
-use Rattle.gup_fast.specs.Walks.{WalkValue, AreWalkEvents, at, at_stage, grabbed_frames, step_after_grab, grabs, is_same, after_recheck, rechecks, last_of, IsWalk, FitsStage, IsAhead}
+use Rattle.gup_fast.specs.Walks.{WalkValue, Stage, AreWalkEvents, at, walks_after, at_stage, grabbed_frames, step_after_grab, grabs, is_same, after_recheck, rechecks, last_of, IsWalk, FitsStage, IsAhead}
 use Rattle.gup_fast.proofs.Begins.{change, own}
 
+-- where a walk that runs goes on, as many run
+stays : (stage : Stage) (step next : WalkStep) (walks : ℕ) → stage ≡ at step → walks_after stage (at next) walks ≡ walks
+stays stage step next walks is = rw is refl
+
 -- a frame that has a reference is grabbed, and one that has none is missed
-grabs_or_misses : (F : FramesValue) (S : SpaceValue) (w : WalkValue) (page : ℕ) (e : Entry) (count : ℕ) → AreWalkEvents (change F (grabbed_frames e.frame count F) S S) w (at_stage (at (step_after_grab page e count)) w) (λ s a p. grabs a p page count e w)
-grabs_or_misses F S w page e zero s a p frames space walk = (
+grabs_or_misses : (F : FramesValue) (S : SpaceValue) (w : WalkValue) (page : ℕ) (e : Entry) (count : ℕ) → w.stage ≡ at (read page e) → AreWalkEvents (change F (grabbed_frames e.frame count F) S S) w (at_stage (at (step_after_grab page e count)) w) (λ s a p. grabs a p page count e w)
+grabs_or_misses F S w page e zero is s a p frames space walk = (
   record { movable = frames.movable; normal = frames.normal; count = frames.count; mark = frames.mark; word = frames.word },
-  record { right = space.right; pages = space.pages; entry = space.entry; sequence = space.sequence; has_pinned = space.has_pinned; structure = space.structure; table = space.table },
+  record { right = space.right; pages = space.pages; entry = space.entry; sequence = space.sequence; has_pinned = space.has_pinned; structure = space.structure; table = space.table; walks = space.walks ∙ sym (stays w.stage (read page e) _ S.walks is) },
   record { job = own a _ s.job; taken = walk.taken },
 )
-grabs_or_misses F S w page e (suc n) s a p frames space walk = (
+grabs_or_misses F S w page e (suc n) is s a p frames space walk = (
   record { movable = frames.movable; normal = frames.normal; count = λ g. grind (arith, nat_tests, frames.count g, frames.count e.frame); mark = frames.mark; word = frames.word },
-  record { right = space.right; pages = space.pages; entry = space.entry; sequence = space.sequence; has_pinned = space.has_pinned; structure = space.structure; table = space.table },
+  record { right = space.right; pages = space.pages; entry = space.entry; sequence = space.sequence; has_pinned = space.has_pinned; structure = space.structure; table = space.table; walks = space.walks ∙ sym (stays w.stage (read page e) _ S.walks is) },
   record { job = own a _ s.job; taken = walk.taken },
 )
 
-pub grabbing : (F F' : FramesValue) (S : SpaceValue) (w w' : WalkValue) (page : ℕ) (e : Entry) (count : ℕ) → F' ≡ grabbed_frames e.frame count F → w' ≡ at_stage (at (step_after_grab page e count)) w → AreWalkEvents (change F F' S S) w w' (λ s a p. grabs a p page count e w)
-grabbing F F' S w w' page e count frames walk =
-    rw frames (rw walk (grabs_or_misses F S w page e count))
+pub grabbing : (F F' : FramesValue) (S : SpaceValue) (w w' : WalkValue) (page : ℕ) (e : Entry) (count : ℕ) → w.stage ≡ at (read page e) → F' ≡ grabbed_frames e.frame count F → w' ≡ at_stage (at (step_after_grab page e count)) w → AreWalkEvents (change F F' S S) w w' (λ s a p. grabs a p page count e w)
+grabbing F F' S w w' page e count is frames walk =
+    rw frames (rw walk (grabs_or_misses F S w page e count is))
 
 -- the last page taken is the one that was put at the end
 ends_with : (taken : List ℕ) (f : ℕ) → last_of (taken ++ f ∷ []) ≡ Some f
@@ -48,17 +52,17 @@ takes_page w page e taken is stage more =
     }
 
 -- the entry is the same or another
-same_or_other : (F : FramesValue) (S : SpaceValue) (w : WalkValue) (page : ℕ) (e : Entry) (same : Bool) → AreWalkEvents (change F F S S) w (if same then record w { taken = w.taken ++ e.frame ∷ []; stage = at (rechecked page e) } else at_stage (at (differed e.frame)) w) (λ s a p. if same then recheck_same a p w.want.write w.want.long w.sequence page e ∷ [] else recheck_other a p w.want.write w.want.long w.sequence page e ∷ [])
-same_or_other F S w page e true s a p frames space walk = (
+same_or_other : (F : FramesValue) (S : SpaceValue) (w : WalkValue) (page : ℕ) (e : Entry) (same : Bool) → w.stage ≡ at (grabbed page e) → AreWalkEvents (change F F S S) w (if same then record w { taken = w.taken ++ e.frame ∷ []; stage = at (rechecked page e) } else at_stage (at (differed e.frame)) w) (λ s a p. if same then recheck_same a p w.want.write w.want.long w.sequence page e ∷ [] else recheck_other a p w.want.write w.want.long w.sequence page e ∷ [])
+same_or_other F S w page e true is s a p frames space walk = (
   record { movable = frames.movable; normal = frames.normal; count = frames.count; mark = frames.mark; word = frames.word },
-  record { right = space.right; pages = space.pages; entry = space.entry; sequence = space.sequence; has_pinned = space.has_pinned; structure = space.structure; table = space.table },
+  record { right = space.right; pages = space.pages; entry = space.entry; sequence = space.sequence; has_pinned = space.has_pinned; structure = space.structure; table = space.table; walks = space.walks ∙ sym (stays w.stage (grabbed page e) _ S.walks is) },
   record { job = own a _ s.job; taken = ap taken_frames (own a _ s.taken) ∙ map-append (λ (t : Taken). t.frame) (s.taken a) _ ∙ ap (λ xs. xs ++ e.frame ∷ []) walk.taken },
 )
-same_or_other F S w page e false s a p frames space walk = (
+same_or_other F S w page e false is s a p frames space walk = (
   record { movable = frames.movable; normal = frames.normal; count = frames.count; mark = frames.mark; word = frames.word },
-  record { right = space.right; pages = space.pages; entry = space.entry; sequence = space.sequence; has_pinned = space.has_pinned; structure = space.structure; table = space.table },
+  record { right = space.right; pages = space.pages; entry = space.entry; sequence = space.sequence; has_pinned = space.has_pinned; structure = space.structure; table = space.table; walks = space.walks ∙ sym (stays w.stage (grabbed page e) _ S.walks is) },
   record { job = own a _ s.job; taken = walk.taken },
 )
 
-pub rechecking : (F : FramesValue) (S : SpaceValue) (w w' : WalkValue) (page : ℕ) (e : Entry) (now : Option Entry) → w' ≡ after_recheck page e now w → AreWalkEvents (change F F S S) w w' (λ s a p. rechecks a p page e now w)
-rechecking F S w w' page e now walk = rw walk (same_or_other F S w page e (is_same e now))
+pub rechecking : (F : FramesValue) (S : SpaceValue) (w w' : WalkValue) (page : ℕ) (e : Entry) (now : Option Entry) → w.stage ≡ at (grabbed page e) → w' ≡ after_recheck page e now w → AreWalkEvents (change F F S S) w w' (λ s a p. rechecks a p page e now w)
+rechecking F S w w' page e now is walk = rw walk (same_or_other F S w page e (is_same e now) is)

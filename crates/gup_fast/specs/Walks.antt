@@ -5,6 +5,7 @@ use Rattle.gup_base.specs.declared.entry.Entry.{Entry}
 use Rattle.gup_base.specs.declared.entry.Want.{Want}
 use Rattle.gup_frames.specs.Frames.{FramesValue, with_references, without_references}
 use Rattle.gup_space.specs.Shows.{Change, ShowsFrames, ShowsSpace}
+use Rattle.gup_space.specs.Space.{SpaceValue}
 use Rattle.gup_spec_events.specs.State.{CoreState, Job, idle, walking, Taken, WalkStep, entered, ready, read, grabbed, rechecked, differed, refused, stopped, dropping}
 use Rattle.gup_spec_events.specs.Event.{CoreEvent, is_odd, taken_frames, run, raise_flag, enter_walk, read_sequence, grab_frame, miss_frame, recheck_same, recheck_other, read_again, drop_grab, drop_last, drop_first, leave_walk}
 use Rattle.gup_fast.specs.declared.walk.GiveUp.{GiveUp}
@@ -258,12 +259,33 @@ pub record ShowsWalk (a p : ℕ) (w : WalkValue) (s : CoreState) : Type 0 where
   pub job : s.job a ≡ job_at p w w.stage
   pub taken : taken_frames (s.taken a) ≡ w.taken
 
+-- how many walks run after a step of one of them that leads there
+abbrev pub walks_left : Stage → (walks : ℕ) → ℕ
+walks_left left walks = walks - 1
+walks_left stage walks = walks
+
+-- how many run after a step that leads from one stage to another: one more where this walk has begun, one less where it
+-- is over
+abbrev pub walks_after : (old new : Stage) → (walks : ℕ) → ℕ
+walks_after (at step) new walks = walks_left new walks
+walks_after unbegun (at step) walks = walks + 1
+walks_after old new walks = walks
+
+-- the process, when that has been counted
+abbrev pub counted_in : (space : SpaceValue) → (old new : Stage) → (walks : ℕ) → SpaceValue
+counted_in space old new walks = record space { walks = walks_after old new walks }
+
+-- and after a step of a walk that runs, which leads there
+abbrev pub left_in : (space : SpaceValue) → Stage → (walks : ℕ) → SpaceValue
+left_in space new walks = record space { walks = walks_left new walks }
+
 -- In whatever state the frames, the process and the walk stand, and whoever holds a lock: these events of its actor lead from
--- what was to what is.
+-- what was to what is. How many walks run in the process is the caller's to count.
 abbrev pub AreWalkEvents : Change → (old new : WalkValue) → (events : CoreState → (a p : ℕ) → List CoreEvent) → Type 0
 AreWalkEvents k old new events =
     (s : CoreState) (a p : ℕ) → ShowsFrames k.old_frames s → ShowsSpace p k.old_space s → ShowsWalk a p old s
-    → ShowsFrames k.new_frames (run s (events s a p)) × ShowsSpace p k.new_space (run s (events s a p))
+    → ShowsFrames k.new_frames (run s (events s a p))
+    × ShowsSpace p (counted_in k.new_space old.stage new.stage k.old_space.walks) (run s (events s a p))
     × ShowsWalk a p new (run s (events s a p))
 
 -- ---- what is true of every walk

@@ -106,6 +106,7 @@ filled_writable F S page f free is none absent =
         has_pinned = refl;
         structure = refl;
         table = refl;
+        walks = refl;
       };
       table = refl;
     })
@@ -202,6 +203,7 @@ marked_upgraded F S page e had =
         has_pinned = refl;
         structure = refl;
         table = refl;
+        walks = refl;
       };
       table = refl;
     })

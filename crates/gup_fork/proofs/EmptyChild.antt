@@ -122,12 +122,12 @@ no_rows (row ∷ rows) none = let here : at (row ∷ rows) row.0 ≡ None = none
 nothing_at : {X : Type 0} (rows : List (ℕ × X)) → rows ≡ [] → at rows ≡ (λ _. None)
 nothing_at {X = X} rows none = fun_ext (λ g. ap (λ (x : List (ℕ × X)). at x g) none)
 
-same_fields : (right right' : ℕ → Option Rights) (pages pages' : ℕ) (entry entry' : ℕ → Option Entry) (entries entries' sequence : ℕ) (has_pinned : Bool) (structure table : Option ℕ) → right ≡ right' → pages ≡ pages' → entry ≡ entry' → entries ≡ entries' → ◌≡◌ {A = SpaceValue} (record { right = right; pages = pages; entry = entry; entries = entries; sequence = sequence; has_pinned = has_pinned; structure = structure; table = table }) (record { right = right'; pages = pages'; entry = entry'; entries = entries'; sequence = sequence; has_pinned = has_pinned; structure = structure; table = table })
-same_fields right right' pages pages' entry entry' entries entries' sequence has_pinned structure table one two three four = rw (one, two, three, four) refl
+same_fields : (right right' : ℕ → Option Rights) (pages pages' : ℕ) (entry entry' : ℕ → Option Entry) (entries entries' sequence : ℕ) (has_pinned : Bool) (structure table : Option ℕ) (walks : ℕ) → right ≡ right' → pages ≡ pages' → entry ≡ entry' → entries ≡ entries' → ◌≡◌ {A = SpaceValue} (record { right = right; pages = pages; entry = entry; entries = entries; sequence = sequence; has_pinned = has_pinned; structure = structure; table = table; walks = walks }) (record { right = right'; pages = pages'; entry = entry'; entries = entries'; sequence = sequence; has_pinned = has_pinned; structure = structure; table = table; walks = walks })
+same_fields right right' pages pages' entry entry' entries entries' sequence has_pinned structure table walks one two three four = rw (one, two, three, four) refl
 
 is_empty : (s : SpaceParts) → s.rights ≡ [] → s.entries ≡ [] → space_of s ≡ emptied (space_of s)
 is_empty s rights entries =
-    same_fields (at s.rights) (λ _. None) (length s.rights) 0 (at s.entries) (λ _. None) (length s.entries) 0 s.sequence s.has_pinned s.structure s.table
+    same_fields (at s.rights) (λ _. None) (length s.rights) 0 (at s.entries) (λ _. None) (length s.entries) 0 s.sequence s.has_pinned s.structure s.table s.walks
     (nothing_at s.rights rights) (ap length rights) (nothing_at s.entries entries) (ap length entries)
 
 no_entries : (C0 C : SpaceValue) (F0 F : FramesValue) → IsLastPage C.right 0 → IsEmptying C0 C F0 F → (g : ℕ) → C.entry g ≡ None

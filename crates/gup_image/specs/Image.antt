@@ -48,7 +48,7 @@ pages p s page = page_fact p page (s.right page) (s.entry page)
 
 abbrev pub process_facts : (p : ℕ) → Birth → SpaceValue → List Fact
 process_facts p birth s =
-    Process p birth s.has_pinned s.structure s.table s.pages s.sequence
+    Process p birth s.has_pinned s.structure s.table s.pages s.sequence s.walks
     ∷ gathered (pages p s) page_numbers
 
 abbrev pub born_facts : (p : ℕ) → Option Birth → SpaceParts → List Fact

@@ -29,7 +29,8 @@ pub enum Fact {
         word: WordNo,
         value: u64,
     },
-    /// A process: whether it is born and has ever pinned, who holds its locks, how many pages are mapped, and its sequence.
+    /// A process: whether it is born and has ever pinned, who holds its locks, how many pages are mapped, its sequence,
+    /// and how many walks run in it.
     Process {
         proc: ProcNo,
         birth: Birth,
@@ -38,6 +39,7 @@ pub enum Fact {
         table: Option<ActorNo>,
         pages: u16,
         sequence: u64,
+        walks: u64,
     },
     /// A mapped page of a process.
     Page {

@@ -53,6 +53,7 @@ fn push_process(
             table: space.table(),
             pages: space.len(),
             sequence: space.sequence(),
+            walks: space.walks(),
         },
     )?;
     push_pages(facts, proc, space)

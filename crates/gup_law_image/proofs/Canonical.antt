@@ -83,14 +83,14 @@ frame_facts_same F G f count mark word =
     gathered_same (λ w. word_fact f w (F.word f w)) (λ w. word_fact f w (G.word f w)) words (λ w within. ap (word_fact f w) (word w)) in
     ap (λ (x : List Fact). x ++ gathered (λ w. word_fact f w (F.word f w)) words) first ∙ ap (λ (x : List Fact). frame_fact f (G.count f) (G.mark f) ++ x) rest
 
-head_same : (p : ℕ) (birth : Birth) (s t : SpaceValue) → s.has_pinned ≡ t.has_pinned → s.structure ≡ t.structure → s.table ≡ t.table → s.pages ≡ t.pages → s.sequence ≡ t.sequence
-    → Process p birth s.has_pinned s.structure s.table s.pages s.sequence ≡ Process p birth t.has_pinned t.structure t.table t.pages t.sequence
-head_same p birth s t has_pinned structure table pages sequence = cc
+head_same : (p : ℕ) (birth : Birth) (s t : SpaceValue) → s.has_pinned ≡ t.has_pinned → s.structure ≡ t.structure → s.table ≡ t.table → s.pages ≡ t.pages → s.sequence ≡ t.sequence → s.walks ≡ t.walks
+    → Process p birth s.has_pinned s.structure s.table s.pages s.sequence s.walks ≡ Process p birth t.has_pinned t.structure t.table t.pages t.sequence t.walks
+head_same p birth s t has_pinned structure table pages sequence walks = cc
 
 process_facts_same : (p : ℕ) (birth : Birth) (x y : SpaceValue) (s : CoreState) → ShowsSpace p x s → ShowsSpace p y s → process_facts p birth x ≡ process_facts p birth y
 process_facts_same p birth x y s one other =
-    let first : Process p birth x.has_pinned x.structure x.table x.pages x.sequence ≡ Process p birth y.has_pinned y.structure y.table y.pages y.sequence =
-    head_same p birth x y (sym one.has_pinned ∙ other.has_pinned) (sym one.structure ∙ other.structure) (sym one.table ∙ other.table) (sym one.pages ∙ other.pages) (sym one.sequence ∙ other.sequence) in
+    let first : Process p birth x.has_pinned x.structure x.table x.pages x.sequence x.walks ≡ Process p birth y.has_pinned y.structure y.table y.pages y.sequence y.walks =
+    head_same p birth x y (sym one.has_pinned ∙ other.has_pinned) (sym one.structure ∙ other.structure) (sym one.table ∙ other.table) (sym one.pages ∙ other.pages) (sym one.sequence ∙ other.sequence) (sym one.walks ∙ other.walks) in
     let rest : gathered (λ page. page_fact p page (x.right page) (x.entry page)) page_numbers ≡ gathered (λ page. page_fact p page (y.right page) (y.entry page)) page_numbers =
     gathered_same (λ page. page_fact p page (x.right page) (x.entry page)) (λ page. page_fact p page (y.right page) (y.entry page)) page_numbers
     (λ page within.

@@ -56,7 +56,7 @@ module _ (m n : Imaged) (both : AreOfOne m n) (to : AreSaid (IsTrueOf n) m) (bac
 
   module _ (p : ℕ) (x y : SpaceParts) (birth : Birth) (here : slice_get m.parts.spaces.items p ≡ Some x) (there : slice_get n.parts.spaces.items p ≡ Some y)
       (born : slice_get m.parts.births.items p ≡ Some birth) (also_born : slice_get n.parts.births.items p ≡ Some birth) where
-    process_same : IsProcess (space_of y) (space_of x).has_pinned (space_of x).structure (space_of x).table (space_of x).pages (space_of x).sequence
+    process_same : IsProcess (space_of y) (space_of x).has_pinned (space_of x).structure (space_of x).table (space_of x).pages (space_of x).sequence (space_of x).walks
     process_same = (process_told n m both.one to p x birth here born).1 y there
 
     page_to : (page : ℕ) (rights : Rights) → (space_of x).right page ≡ Some rights → IsPage (space_of y) rights ((space_of x).entry page) page
@@ -91,6 +91,7 @@ module _ (m n : Imaged) (both : AreOfOne m n) (to : AreSaid (IsTrueOf n) m) (bac
           has_pinned = shows.has_pinned ∙ process_same.has_pinned;
           structure = shows.structure ∙ process_same.structure;
           table = shows.table ∙ process_same.table;
+          walks = shows.walks ∙ process_same.walks;
         }
 
   -- ---- handles, mirror slots

@@ -56,13 +56,14 @@ unmade_or_not gone = inr (λ is. cc)
 
 -- ---- what a fact says of a machine
 
--- whether the process has ever pinned, who holds its locks, how many of its pages are mapped, and its sequence
-pub record IsProcess (space : SpaceValue) (pinned : Bool) (by table_by : Option ℕ) (many at : ℕ) : Type 0 where
+-- whether the process has ever pinned, who holds its locks, how many of its pages are mapped, its sequence, and how many walks run
+pub record IsProcess (space : SpaceValue) (pinned : Bool) (by table_by : Option ℕ) (many at running : ℕ) : Type 0 where
   pub has_pinned : space.has_pinned ≡ pinned
   pub structure : space.structure ≡ by
   pub table : space.table ≡ table_by
   pub pages : space.pages ≡ many
   pub sequence : space.sequence ≡ at
+  pub walks : space.walks ≡ running
 
 pub record IsPage (space : SpaceValue) (rights : Rights) (e : Option Entry) (page : ℕ) : Type 0 where
   pub right : space.right page ≡ Some rights
@@ -77,9 +78,9 @@ abbrev pub IsTrueOf : Imaged → Fact → Type 0
 IsTrueOf m (Zones movable normal) = ((frames_of m.parts.frames).movable ≡ movable) × ((frames_of m.parts.frames).normal ≡ normal)
 IsTrueOf m (Frame mark f count) = ((frames_of m.parts.frames).count f ≡ count) × ((frames_of m.parts.frames).mark f ≡ mark)
 IsTrueOf m (Word f w value) = (frames_of m.parts.frames).word f w ≡ value
-IsTrueOf m (Process p birth has_pinned structure table pages sequence) =
+IsTrueOf m (Process p birth has_pinned structure table pages sequence walks) =
     (slice_get m.parts.births.items p ≡ Some birth)
-    × ((space : SpaceParts) → slice_get m.parts.spaces.items p ≡ Some space → IsProcess (space_of space) has_pinned structure table pages sequence)
+    × ((space : SpaceParts) → slice_get m.parts.spaces.items p ≡ Some space → IsProcess (space_of space) has_pinned structure table pages sequence walks)
 IsTrueOf m (Page p rights entry page) = (space : SpaceParts) → slice_get m.parts.spaces.items p ≡ Some space → IsPage (space_of space) rights entry page
 IsTrueOf m (Pin by false write h) = bare (handles_of m.parts.handles h) ≡ held by [] write
 IsTrueOf m (Pin to true write h) = bare (handles_of m.parts.handles h) ≡ given to [] write

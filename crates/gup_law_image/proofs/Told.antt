@@ -71,10 +71,10 @@ module _ (n m : Imaged) (whole : IsWhole m) (said : AreSaid (IsTrueOf n) m) wher
 
   pub process_told : (p : ℕ) (space : SpaceParts) (birth : Birth) → slice_get m.parts.spaces.items p ≡ Some space → slice_get m.parts.births.items p ≡ Some birth
       → (slice_get n.parts.births.items p ≡ Some birth)
-      × ((other : SpaceParts) → slice_get n.parts.spaces.items p ≡ Some other → IsProcess (space_of other) (space_of space).has_pinned (space_of space).structure (space_of space).table (space_of space).pages (space_of space).sequence)
+      × ((other : SpaceParts) → slice_get n.parts.spaces.items p ≡ Some other → IsProcess (space_of other) (space_of space).has_pinned (space_of space).structure (space_of space).table (space_of space).pages (space_of space).sequence (space_of space).walks)
   process_told p space birth here is =
       let s : SpaceValue = space_of space in
-      All-head (IsTrueOf n) (Process p birth s.has_pinned s.structure s.table s.pages s.sequence) (gathered (λ page. page_fact p page (s.right page) (s.entry page)) page_numbers) (process_said p space birth here is)
+      All-head (IsTrueOf n) (Process p birth s.has_pinned s.structure s.table s.pages s.sequence s.walks) (gathered (λ page. page_fact p page (s.right page) (s.entry page)) page_numbers) (process_said p space birth here is)
 
   pub page_told : (p : ℕ) (space other : SpaceParts) (birth : Birth) → slice_get m.parts.spaces.items p ≡ Some space → slice_get m.parts.births.items p ≡ Some birth → slice_get n.parts.spaces.items p ≡ Some other
       → (page : ℕ) (rights : Rights) → (space_of space).right page ≡ Some rights → IsPage (space_of other) rights ((space_of space).entry page) page
@@ -82,7 +82,7 @@ module _ (n m : Imaged) (whole : IsWhole m) (said : AreSaid (IsTrueOf n) m) wher
       let s : SpaceValue = space_of space in
       page_there (IsTrueOf n) p page (s.right page) (s.entry page) rights mapped
       (gathered_at (IsTrueOf n) (λ g. page_fact p g (s.right g) (s.entry g)) page_numbers page (whole.numbered p space here page rights mapped)
-      (All-tail (IsTrueOf n) (Process p birth s.has_pinned s.structure s.table s.pages s.sequence) (gathered (λ g. page_fact p g (s.right g) (s.entry g)) page_numbers) (process_said p space birth here is)))
+      (All-tail (IsTrueOf n) (Process p birth s.has_pinned s.structure s.table s.pages s.sequence s.walks) (gathered (λ g. page_fact p g (s.right g) (s.entry g)) page_numbers) (process_said p space birth here is)))
       other there
 
   -- ---- handles

@@ -117,10 +117,10 @@ module _ (m : Imaged) where
       (all_frame (IsTrueOf m) f (F.count f) (F.mark f) (refl, refl))
       (all_gathered (IsTrueOf m) (λ w. word_fact f w (F.word f w)) words (λ w within. all_word (IsTrueOf m) f w (F.word f w) refl))
 
-  process_is : (x y : SpaceParts) → x ≡ y → IsProcess (space_of y) (space_of x).has_pinned (space_of x).structure (space_of x).table (space_of x).pages (space_of x).sequence
+  process_is : (x y : SpaceParts) → x ≡ y → IsProcess (space_of y) (space_of x).has_pinned (space_of x).structure (space_of x).table (space_of x).pages (space_of x).sequence (space_of x).walks
   process_is x y same =
-      subst (λ (s : SpaceParts). IsProcess (space_of s) (space_of x).has_pinned (space_of x).structure (space_of x).table (space_of x).pages (space_of x).sequence) same
-      (record { has_pinned = refl; structure = refl; table = refl; pages = refl; sequence = refl })
+      subst (λ (s : SpaceParts). IsProcess (space_of s) (space_of x).has_pinned (space_of x).structure (space_of x).table (space_of x).pages (space_of x).sequence (space_of x).walks) same
+      (record { has_pinned = refl; structure = refl; table = refl; pages = refl; sequence = refl; walks = refl })
 
   page_is : (x y : SpaceParts) → x ≡ y → (page : ℕ) (rights : Rights) → (space_of x).right page ≡ Some rights → IsPage (space_of y) rights ((space_of x).entry page) page
   page_is x y same page rights is =
@@ -130,7 +130,7 @@ module _ (m : Imaged) where
   born_true p space None here is = All-nil (IsTrueOf m)
   born_true p space (Some birth) here is =
       let s : SpaceValue = space_of space in
-      All-cons (IsTrueOf m) (Process p birth s.has_pinned s.structure s.table s.pages s.sequence) (gathered (λ page. page_fact p page (s.right page) (s.entry page)) page_numbers)
+      All-cons (IsTrueOf m) (Process p birth s.has_pinned s.structure s.table s.pages s.sequence s.walks) (gathered (λ page. page_fact p page (s.right page) (s.entry page)) page_numbers)
       (is, λ other there. process_is space other (one_item m.parts.spaces.items p space other here there))
       (all_gathered (IsTrueOf m) (λ page. page_fact p page (s.right page) (s.entry page)) page_numbers
       (λ page within. all_page (IsTrueOf m) p page (s.right page) (s.entry page)

@@ -18,6 +18,7 @@ pub mod Sums
 pub mod CalmStates
 pub mod SmallCounts
 pub mod FewPages
+pub mod WalkCounts
 pub mod TurnSubjects
 pub mod KeptParts
 pub mod MappedCounts

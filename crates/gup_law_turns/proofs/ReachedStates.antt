@@ -30,6 +30,7 @@ use Rattle.gup_spec_turns.specs.Run.{turned, RunState, run_start, run_after, op_
 use Rattle.gup_law_turns.proofs.ScriptLemmas.{op_is_op, has_ops_declared}
 use Rattle.gup_law_turns.proofs.SmallCounts.{HoldsNoFrame, HoldsFew, ArePinsFew, few_counts}
 use Rattle.gup_law_turns.proofs.FewPages.{few_sequence}
+use Rattle.gup_law_turns.proofs.WalkCounts.{few_walkers, some_walk, does_one}
 use Rattle.gup_law_turns.proofs.ActorPlaces.{op_behind, answered_more}
 use Rattle.gup_law_base.proofs.Lonely.{taken_counts, grabbed_counts}
 use Rattle.gup_law_base.specs.Sound.{walk_frame, walking_of}
@@ -281,6 +282,8 @@ is_standing published script valid r h =
     λ p page e is. let below : p < length script.processes = k.declared p (entry_brought s p page e k.sound (k.emptied p page) is) in let most = valid.few_processes in omega (arith, below, most) in
     let few_actor : (a : ℕ) (op : Op) → present_op script a (r.places a) ≡ Some op → a < 81 =
     λ a op is. let declared = has_ops_declared script a (r.places a).answered op is in let actors = valid.few_actors in omega (arith, declared, actors) in
+    let rests : (a : ℕ) → KeepsNoJob (present_op script a (r.places a)) → s.job a ≡ idle =
+    λ a no_fork. idle_job s (doer_of script a (present_op script a (r.places a))) (present_op script a (r.places a)) (r.places a) no_fork (k.fits a) in
     record {
       sound = k.sound;
       holds = published s k.sound;
@@ -289,9 +292,11 @@ is_standing published script valid r h =
       counted = λ p page e is none. entry_counted s p page e k.sound is none;
       few_pages = λ p. few_mapped s p (k.few.mapped p) (k.few.pages p);
       few_counts = few_counts s k.sound k.rest (λ a. no_frame s (doer_of script a (present_op script a (r.places a))) (present_op script a (r.places a)) (r.places a) (λ op is. few_actor a op is) (k.fits a)) k.emptied few (few_pins script valid r k) (λ handle got. let below = k.got handle got in let most = valid.few_handles in omega (arith, below, most));
+      few_walks = λ p. few_walkers s p 81 (published s k.sound).walks (λ a busy. does_one 81 (present_op script a (r.places a)) a (s.job a) (few_actor a) (λ none. rests a (subst KeepsNoJob (sym none) tt)) busy);
+      walks = λ a p sequence write long step is. some_walk s a p sequence write long step (published s k.sound).walks is;
       few_forks = few_sequence (length script.processes) valid.few_processes s k.few;
       fresh = λ a first. (rests_at s (doer_of script a (present_op script a (r.places a))) (r.places a) first (present_op script a (r.places a)) (k.fits a)).0;
-      idle_jobs = λ a no_fork. idle_job s (doer_of script a (present_op script a (r.places a))) (present_op script a (r.places a)) (r.places a) no_fork (k.fits a);
+      idle_jobs = rests;
       forks = λ a child is. (fork_stands s a (process_of script a) child (r.places a) (s.job a) (s.prepared a) (at a (Fork child) is).1).0;
       moves = λ a proc page zone is. (move_stands s a proc page zone (r.places a) (s.job a) (at a (Move proc page zone) is).2).0;
       prepared = λ a f is. is_prepared s k.sound h.there a f is;

@@ -11,7 +11,7 @@ use Rattle.gup_script.specs.declared.op.Op.TheVariants.{Unmap, Discard, Pin, Unp
 use Rattle.gup_script.specs.Limits.{most_pinned, most_handles}
 use Rattle.gup_script.specs.Script.{ScriptValue}
 use Rattle.gup_script.specs.Valid.{made_by}
-use Rattle.gup_spec_events.specs.State.{CoreState, Taken, idle}
+use Rattle.gup_spec_events.specs.State.{CoreState, Taken, WalkStep, idle, walking}
 use Rattle.gup_spec_events.specs.Event.{bias}
 use Rattle.gup_spec_events.specs.Invariant.{Holds, grabbed_frame}
 use Rattle.gup_law_base.specs.Sound.{IsSound}
@@ -49,7 +49,8 @@ IsUnmade s handle = (s.handle handle ≡ unmade) × (s.got handle ≡ None)
 -- pages or words stands at one of them, an unpin has given back fewer than the most pages of a pin, and no actor has answered
 -- more operations than it has. Pins and references are of declared handles. The weight of each page of a pin is in the count of its
 -- frame, also of one that is taken or that a walk has grabbed, and so is that of a reference; the handle of a pin or a reference
--- that isn't answered is unmade. Counts and sequences stay small.
+-- that isn't answered is unmade. Counts and sequences stay small, and so do the walks that run in a process: an actor that walks is
+-- one of them.
 pub record IsStanding (script : ScriptValue) (r : RunState) : Type 0 where
   pub sound : IsSound r.core
   pub holds : Holds r.core
@@ -59,6 +60,8 @@ pub record IsStanding (script : ScriptValue) (r : RunState) : Type 0 where
   pub few_pages : (p : ℕ) → mapped_pages (r.core.right p) ≤ 1024
   pub few_counts : (f : ℕ) → r.core.count f ≤ 16 * page_numbers + most_handles + 81 + bias * 17761
   pub few_forks : (p : ℕ) → r.core.sequence p ≤ 32
+  pub few_walks : (p : ℕ) → r.core.walks p ≤ 81
+  pub walks : (a p sequence : ℕ) (write long : Bool) (step : WalkStep) → r.core.job a ≡ walking p write long sequence step → 0 < r.core.walks p
   pub idle_jobs : (a : ℕ) → KeepsNoJob (present_op script a (r.places a)) → r.core.job a ≡ idle
   pub fresh : (a : ℕ) → (r.places a).far ≡ 0 → r.core.job a ≡ idle
   pub forks : (a child : ℕ) → present_op script a (r.places a) ≡ Some (Fork child) → StandsFork r.core a (process_of script a) child (r.core.job a) (r.core.prepared a)

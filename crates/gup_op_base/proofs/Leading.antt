@@ -37,6 +37,7 @@ state_of F S =
       has_pinned = λ _. S.has_pinned;
       structure = λ _. S.structure;
       table = λ _. S.table;
+      walks = λ _. S.walks;
     }
 
 pub has_frames : (F : FramesValue) (S : SpaceValue) → ShowsFrames F (state_of F S)
@@ -52,6 +53,7 @@ has_space F S p =
       has_pinned = refl;
       structure = refl;
       table = refl;
+      walks = refl;
     }
 
 -- a clause on the one side of a result, where it is on that side

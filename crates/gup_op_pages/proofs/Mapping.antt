@@ -112,6 +112,7 @@ lowered_none page space =
       has_pinned = refl;
       structure = refl;
       table = refl;
+      walks = refl;
     }
 
 lowered_at : (page n g : ℕ) (entry other : ℕ → Option Entry) → entry g ≡ other g → lowered page n entry g ≡ lowered page n other g
@@ -127,6 +128,7 @@ lowered_more page n old mid new first last =
       has_pinned = last.has_pinned ∙ first.has_pinned;
       structure = last.structure ∙ first.structure;
       table = last.table ∙ first.table;
+      walks = last.walks ∙ first.walks;
     }
 
 -- one page's event, if it has one
@@ -142,6 +144,7 @@ lower_one F S a p page None s found frames space = (
     has_pinned = space.has_pinned;
     structure = space.structure;
     table = space.table;
+    walks = space.walks;
   },
 )
   where
@@ -163,6 +166,7 @@ lower_one F S a p page (Some e) s found frames space = go e.writable refl
         has_pinned = space.has_pinned;
         structure = space.structure;
         table = space.table;
+        walks = space.walks;
       },
     )
     go false is = (
@@ -175,6 +179,7 @@ lower_one F S a p page (Some e) s found frames space = go e.writable refl
         has_pinned = space.has_pinned;
         structure = space.structure;
         table = space.table;
+        walks = space.walks;
       },
     )
 
@@ -189,6 +194,7 @@ lowered_rest page n S S' h =
       has_pinned = h.has_pinned;
       structure = h.structure;
       table = h.table;
+      walks = h.walks;
     }
 
 lowered_shown : (page : ℕ) (S S' : SpaceValue) → IsLowered page 0 S S' → IsShownAs S S'
@@ -201,6 +207,7 @@ lowered_shown page S S' h =
       has_pinned = sym h.has_pinned;
       structure = sym h.structure;
       table = sym h.table;
+      walks = sym h.walks;
     }
   where
     nothing : (g : ℕ) → lowered page 0 S.entry g ≡ S.entry g
@@ -253,6 +260,7 @@ rights_behind page n rights S S1 S' low h =
       has_pinned = low.has_pinned ∙ sym h.has_pinned;
       structure = low.structure ∙ sym h.structure;
       table = low.table ∙ sym h.table;
+      walks = low.walks ∙ sym h.walks;
     }
 
 protect_by : (rights : Rights) (F : FramesValue) (S S' : SpaceValue) (a p page n : ℕ) (s : CoreState) → IsLoweredFor rights page n (with_rights page n rights S) S'
@@ -260,7 +268,7 @@ protect_by : (rights : Rights) (F : FramesValue) (S S' : SpaceValue) (a p page n
     → Leads (ShowsAlone p) (view F S') s (protect_turn_by None s a p page n rights) (protected_whats a p page n rights)
 protect_by R F S S' a p page n s h shown =
     let S1 : SpaceValue = record S { entry = lowered page n S.entry } in
-    let low : IsLowered page n S S1 = record { right = refl; pages = refl; entry = λ g. refl; sequence = refl; has_pinned = refl; structure = refl; table = refl } in
+    let low : IsLowered page n S S1 = record { right = refl; pages = refl; entry = λ g. refl; sequence = refl; has_pinned = refl; structure = refl; table = refl; walks = refl } in
     let es : List CoreEvent = lowers (s.entry p) a p page n in
     let all = lower_all F S S1 a p page n (s.entry p) s (λ g above. shown.space.entry g) low shown.frames shown.space in
     let same : run s (es ++ protect_pages a p page n R ∷ []) ≡ happens (run s es) (protect_pages a p page n R) = run_behind s es (protect_pages a p page n R ∷ []) in
@@ -324,4 +332,5 @@ lowered_entry page e old new found same =
       has_pinned = refl;
       structure = refl;
       table = refl;
+      walks = refl;
     })

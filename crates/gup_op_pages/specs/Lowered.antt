@@ -23,6 +23,7 @@ pub record IsLowered (page n : ℕ) (old new : SpaceValue) : Type 0 where
   pub has_pinned : new.has_pinned ≡ old.has_pinned
   pub structure : new.structure ≡ old.structure
   pub table : new.table ≡ old.table
+  pub walks : new.walks ≡ old.walks
 
 -- so it is for rights that don't allow a write
 abbrev pub IsLoweredFor : Rights → (page n : ℕ) → (old new : SpaceValue) → Type 0

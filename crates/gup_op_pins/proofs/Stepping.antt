@@ -12,7 +12,7 @@ use Rattle.gup_frames.specs.Frames.{FramesValue, IsFrame}
 use Rattle.gup_space.specs.Shows.{Change, ShowsFrames, ShowsSpace}
 use Rattle.gup_spec_events.specs.State.{CoreState, Taken, WalkStep, entered, ready, read, grabbed, rechecked, differed, refused, stopped, dropping, over}
 use Rattle.gup_spec_events.specs.Event.{CoreEvent, is_odd, happens, run, taken_frames, read_sequence, read_entry, recheck_same, recheck_other, read_mark, read_again, drop_last, drop_first}
-use Rattle.gup_fast.specs.Walks.{WalkValue, Stage, MayReadAgain, at, left, unbegun, at_stage, next_page, ShowsWalk, AreWalkEvents, dropped_at, after_recheck, after_drop, reads_sequence, grabs, rechecks, reads_again, drops, drops_last, drops_first}
+use Rattle.gup_fast.specs.Walks.{WalkValue, Stage, counted_in, left_in, MayReadAgain, at, left, unbegun, at_stage, next_page, ShowsWalk, AreWalkEvents, dropped_at, after_recheck, after_drop, reads_sequence, grabs, rechecks, reads_again, drops, drops_last, drops_first}
 use Rattle.gup_fast.specs.declared.walk.GiveUp.{GiveUp}
 use Rattle.gup_fast.specs.Walks.{leaves_if as leaves_walk, is_same as is_same_entry, is_none_left as no_frame_left, split_last as parts_of, one_before as one_more, last_of}
 use Rattle.gup_fast.proofs.Leaving.{Unwalked, unwalked_of, AreWalking, walkings_leave, sequence_walking, read_walking, grabs_walking, rechecks_walking, mark_walking, again_walking, drops_walking}
@@ -49,10 +49,17 @@ no_end stage last taken none = subst (λ (o : Option ℕ). EndAt o taken) (sym n
 pub same_step : (stage : Stage) (step known : WalkStep) → stage ≡ at step → stage ≡ at known → step ≡ known
 same_step stage step known is be = cc
 
+-- what a step of a walk that runs leads to, with the walks that run after it
+running : (k : Change) (w w' : WalkValue) (a p : ℕ) (t : CoreState) (step : WalkStep) → w.stage ≡ at step
+    → ShowsFrames k.new_frames t × ShowsSpace p (counted_in k.new_space w.stage w'.stage k.old_space.walks) t × ShowsWalk a p w' t
+    → ShowsFrames k.new_frames t × ShowsSpace p (left_in k.new_space w'.stage k.old_space.walks) t × ShowsWalk a p w' t
+running k w w' a p t step is =
+    subst (λ (x : Stage). ShowsFrames k.new_frames t × ShowsSpace p (counted_in k.new_space x w'.stage k.old_space.walks) t × ShowsWalk a p w' t) is
+
 -- the turn, by the events of the walk
 by_events : (k : Change) (w w' : WalkValue) (a p last : ℕ) (whats : List What) (s : CoreState) (turn : CoreTurn) (es : List CoreEvent)
     → turn ≡ record { events = es; whats = whats } → AreWalking a p es
-    → ShowsFrames k.new_frames (run s es) × ShowsSpace p k.new_space (run s es) × ShowsWalk a p w' (run s es)
+    → ShowsFrames k.new_frames (run s es) × ShowsSpace p (left_in k.new_space w'.stage k.old_space.walks) (run s es) × ShowsWalk a p w' (run s es)
     → EndAt (last_at w'.stage last) ((run s es).taken a) → IsStepTurn k w' a p last whats s turn
 by_events k w w' a p last whats s turn es is walking shows ends =
     let kept : unwalked_of (run s es) ≡ unwalked_of s = walkings_leave a p s es walking in
@@ -71,7 +78,7 @@ by_events k w w' a p last whats s turn es is walking shows ends =
 -- a turn without an event, that leaves what was taken
 silently : (k : Change) (w w' : WalkValue) (a p last : ℕ) (s : CoreState) (turn : CoreTurn) (es : List CoreEvent)
     → turn ≡ silent_turn es → AreWalking a p es
-    → ShowsFrames k.new_frames (run s es) × ShowsSpace p k.new_space (run s es) × ShowsWalk a p w' (run s es)
+    → ShowsFrames k.new_frames (run s es) × ShowsSpace p (left_in k.new_space w'.stage k.old_space.walks) (run s es) × ShowsWalk a p w' (run s es)
     → (run s es).taken ≡ s.taken → EndAt (Some last) (s.taken a) → IsStepTurn k w' a p last (Silent ∷ []) s turn
 silently k w w' a p last s turn es is walking shows same ends =
     by_events k w w' a p last (Silent ∷ []) s turn es is walking shows
@@ -104,7 +111,7 @@ sequence_step k w w' a p last at_it events s handle step is frames space walk en
     (ap (walk_turn s a p handle w.page w.n w.want w.sequence) (same_step w.stage step entered is at_it)
     ∙ ap (sequence_turn a p w.want) space.sequence
     ∙ ap (λ (rest : List CoreEvent). silent_turn (read_sequence a p w.want.write w.want.long now ∷ rest)) (leaves_same (is_odd now) a p w.want now))
-    (sequence_walking a p now w) (events s a p frames space walk)
+    (sequence_walking a p now w) (running k w w' a p _ step is (events s a p frames space walk))
     (leaves_taken (is_odd now) a p w.want now (happens s (read_sequence a p w.want.write w.want.long now))) ends
 
 -- ---- an entry is read
@@ -121,7 +128,7 @@ read_step k w w' a p last at_it more events s handle step is frames space walk e
     ∙ ap (λ (m : ℕ). ready_turn s a p handle (w.page + m) w.n w.want w.sequence (nat_lt m w.n)) many
     ∙ ap (ready_turn s a p handle g w.n w.want w.sequence) next
     ∙ ap (λ (o : Option Entry). silent_turn (read_entry a p w.want.write w.want.long w.sequence g o ∷ [])) (space.entry g))
-    (read_walking a p w.want.write w.want.long w.sequence g (k.old_space.entry g)) (events s a p frames space walk) refl ends
+    (read_walking a p w.want.write w.want.long w.sequence g (k.old_space.entry g)) (running k w w' a p _ step is (events s a p frames space walk)) refl ends
 
 -- ---- a frame is grabbed
 
@@ -140,7 +147,7 @@ grab_step k w w' a p last g e at_it events s handle step is frames space walk en
     silently k w w' a p last s (walk_turn s a p handle w.page w.n w.want w.sequence step) (grabs a p g count e w)
     (ap (walk_turn s a p handle w.page w.n w.want w.sequence) (same_step w.stage step (read g e) is at_it)
     ∙ ap (grab_turn a p w.want w.sequence g e) (frames.count e.frame) ∙ grab_same count a p g e w)
-    (grabs_walking a p g count e w) (events s a p frames space walk) (grab_taken count a p g e w s) ends
+    (grabs_walking a p g count e w) (running k w w' a p _ step is (events s a p frames space walk)) (grab_taken count a p g e w s) ends
 
 -- ---- the entry is read again
 
@@ -161,7 +168,7 @@ recheck_events same a p g e w =
 rechecked_as : (same : Bool) (k : Change) (w w' : WalkValue) (a p last g : ℕ) (e : Entry) (event : Option PlainEvent) (s : CoreState) (turn : CoreTurn)
     → w' ≡ (if same then record w { taken = w.taken ++ e.frame ∷ []; stage = at (rechecked g e) } else at_stage (at (differed e.frame)) w)
     → event ≡ recheck_event same a p g w.want.write → AreWalking a p (recheck_events same a p g e w)
-    → ShowsFrames k.new_frames (run s (recheck_events same a p g e w)) × ShowsSpace p k.new_space (run s (recheck_events same a p g e w)) × ShowsWalk a p w' (run s (recheck_events same a p g e w))
+    → ShowsFrames k.new_frames (run s (recheck_events same a p g e w)) × ShowsSpace p (left_in k.new_space w'.stage k.old_space.walks) (run s (recheck_events same a p g e w)) × ShowsWalk a p w' (run s (recheck_events same a p g e w))
     → EndAt (Some last) (s.taken a) → turn ≡ recheck_turn a p w.want w.sequence g e same → IsStepTurn k w' a p last (step_whats event) s turn
 rechecked_as true k w w' a p last g e event s turn leads tells walking shows ends is =
     subst (λ (o : Option PlainEvent). IsStepTurn k w' a p last (step_whats o) s turn) (sym tells)
@@ -177,7 +184,7 @@ pub recheck_step : (k : Change) (w w' : WalkValue) (a p last g : ℕ) (e : Entry
 recheck_step k w w' a p last g e event at_it leads tells events s handle step is frames space walk ends =
     let now : Option Entry = k.old_space.entry g in
     rechecked_as (is_same_entry e now) k w w' a p last g e event s (walk_turn s a p handle w.page w.n w.want w.sequence step) leads tells
-    (rechecks_walking a p g e now w) (events s a p frames space walk) ends
+    (rechecks_walking a p g e now w) (running k w w' a p _ step is (events s a p frames space walk)) ends
     (ap (walk_turn s a p handle w.page w.n w.want w.sequence) (same_step w.stage step (grabbed g e) is at_it)
     ∙ ap (λ (o : Option Entry). recheck_turn a p w.want w.sequence g e (is_same e o)) (space.entry g)
     ∙ ap (recheck_turn a p w.want w.sequence g e) (same_entry e now))
@@ -191,7 +198,7 @@ mark_step k w w' a p last g e at_it events s handle step is frames space walk en
     (read_mark a p w.want.write w.want.long w.sequence g e (k.old_frames.mark e.frame) ∷ [])
     (ap (walk_turn s a p handle w.page w.n w.want w.sequence) (same_step w.stage step (rechecked g e) is at_it)
     ∙ ap (λ (m : Bool). silent_turn (read_mark a p w.want.write w.want.long w.sequence g e m ∷ [])) (frames.mark e.frame))
-    (mark_walking a p w.want.write w.want.long w.sequence g e (k.old_frames.mark e.frame)) (events s a p frames space walk) refl ends
+    (mark_walking a p w.want.write w.want.long w.sequence g e (k.old_frames.mark e.frame)) (running k w w' a p _ step is (events s a p frames space walk)) refl ends
 
 -- ---- the sequence is read again, where the walk stopped
 
@@ -210,7 +217,7 @@ again_step k w w' a p last at_it events s handle step is frames space walk ends 
     ∙ ap (λ (x : ℕ). again_turn a p w.want w.sequence x (s.taken a)) space.sequence
     ∙ ap (λ (b : Bool). silent_turn (e ∷ leaves_if ((now == w.sequence) || b) a p w.want w.sequence)) none
     ∙ ap (λ (rest : List CoreEvent). silent_turn (e ∷ rest)) (leaves_same ((now == w.sequence) || no_frame_left w.taken) a p w.want w.sequence))
-    (again_walking a p now stopped w) (events s a p frames space walk)
+    (again_walking a p now stopped w) (running k w w' a p _ step is (events s a p frames space walk))
     (leaves_taken ((now == w.sequence) || no_frame_left w.taken) a p w.want w.sequence (happens s e)) ends
 
 -- ---- a frame is dropped
@@ -242,7 +249,7 @@ none_last f frames is some = absurd (cc)
 -- the page whose mark was missing
 refused_turn : (k : Change) (w w' : WalkValue) (a p handle last f : ℕ) (s : CoreState) (taken : List Taken) → s.taken a ≡ taken → taken_frames (s.taken a) ≡ w.taken → last_of w.taken ≡ Some f → w' ≡ after_drop (at refused) w
     → AreWalking a p (drops_last a p w (parts_of (s.taken a)))
-    → ShowsFrames k.new_frames (run s (drops_last a p w (parts_of (s.taken a)))) × ShowsSpace p k.new_space (run s (drops_last a p w (parts_of (s.taken a)))) × ShowsWalk a p w' (run s (drops_last a p w (parts_of (s.taken a))))
+    → ShowsFrames k.new_frames (run s (drops_last a p w (parts_of (s.taken a)))) × ShowsSpace p (left_in k.new_space w'.stage k.old_space.walks) (run s (drops_last a p w (parts_of (s.taken a)))) × ShowsWalk a p w' (run s (drops_last a p w (parts_of (s.taken a))))
     → EndAt (Some last) (s.taken a) → IsStepTurn k w' a p last (Event (events.PinDrop a last) ∷ []) s (walk_turn s a p handle w.page w.n w.want w.sequence refused)
 refused_turn k w w' a p handle last f s [] is shown some leads walking shows ends =
     absurd (none_last f w.taken (sym shown ∙ ap taken_frames is) some)
@@ -265,7 +272,7 @@ none_first f stage frames is some = absurd (cc)
 -- the first of all that are left
 dropping_turn : (k : Change) (w w' : WalkValue) (a p handle last many f : ℕ) (s : CoreState) (taken : List Taken) → s.taken a ≡ taken → taken_frames (s.taken a) ≡ w.taken → length w.taken ≡ many → dropped_at (at dropping) w.taken ≡ Some f
     → AreWalking a p (drops_first a p w (s.taken a))
-    → ShowsFrames k.new_frames (run s (drops_first a p w (s.taken a))) × ShowsSpace p k.new_space (run s (drops_first a p w (s.taken a))) × ShowsWalk a p w' (run s (drops_first a p w (s.taken a)))
+    → ShowsFrames k.new_frames (run s (drops_first a p w (s.taken a))) × ShowsSpace p (left_in k.new_space w'.stage k.old_space.walks) (run s (drops_first a p w (s.taken a))) × ShowsWalk a p w' (run s (drops_first a p w (s.taken a)))
     → EndAt (Some last) (s.taken a) → IsStepTurn k w' a p last (Event (events.PinDrop a (first_of_left many last)) ∷ []) s (walk_turn s a p handle w.page w.n w.want w.sequence dropping)
 dropping_turn k w w' a p handle last many f s [] is shown count some walking shows ends =
     absurd (none_first f w.stage w.taken (sym shown ∙ ap taken_frames is) some)
@@ -293,7 +300,7 @@ dropping_turn k w w' a p handle last many f s (t ∷ rest) is shown count some w
 
 dropped_as : (step : WalkStep) (k : Change) (w w' : WalkValue) (a p handle last many f : ℕ) (s : CoreState) → length w.taken ≡ many → dropped_at (at step) w.taken ≡ Some f → w' ≡ after_drop (at step) w
     → AreWalking a p (drops a p w (at step) (s.taken a))
-    → ShowsFrames k.new_frames (run s (drops a p w (at step) (s.taken a))) × ShowsSpace p k.new_space (run s (drops a p w (at step) (s.taken a))) × ShowsWalk a p w' (run s (drops a p w (at step) (s.taken a)))
+    → ShowsFrames k.new_frames (run s (drops a p w (at step) (s.taken a))) × ShowsSpace p (left_in k.new_space w'.stage k.old_space.walks) (run s (drops a p w (at step) (s.taken a))) × ShowsWalk a p w' (run s (drops a p w (at step) (s.taken a)))
     → taken_frames (s.taken a) ≡ w.taken → EndAt (Some last) (s.taken a)
     → IsStepTurn k w' a p last (step_whats (dropped_event (at step) a many last)) s (walk_turn s a p handle w.page w.n w.want w.sequence step)
 dropped_as (differed g) k w w' a p handle last many f s count some leads walking shows shown ends =
@@ -312,8 +319,8 @@ drop_step k w w' a p last many f event count some leads tells events s handle st
     (dropped_as step k w w' a p handle last many f s count
     (subst (λ (x : Stage). dropped_at x w.taken ≡ Some f) is some) (subst (λ (x : Stage). w' ≡ after_drop x w) is leads)
     (subst (λ (x : Stage). AreWalking a p (drops a p w x (s.taken a))) is (drops_walking a p w w.stage (s.taken a)))
-    (subst (λ (x : Stage). ShowsFrames k.new_frames (run s (drops a p w x (s.taken a))) × ShowsSpace p k.new_space (run s (drops a p w x (s.taken a))) × ShowsWalk a p w' (run s (drops a p w x (s.taken a)))) is
-    (events s a p frames space walk))
+    (subst (λ (x : Stage). ShowsFrames k.new_frames (run s (drops a p w x (s.taken a))) × ShowsSpace p (left_in k.new_space w'.stage k.old_space.walks) (run s (drops a p w x (s.taken a))) × ShowsWalk a p w' (run s (drops a p w x (s.taken a)))) is
+    (running k w w' a p _ step is (events s a p frames space walk)))
     walk.taken ends)
 
 -- ---- what a step needs of frames
@@ -390,7 +397,7 @@ all_step k w w' a p last at_it all some other events s handle step is frames spa
     ∙ ap (λ (x : ℕ). all_turn a p handle w.n w.want w.sequence x (x == w.sequence)) space.sequence
     ∙ ap (all_turn a p handle w.n w.want w.sequence now) other
     ∙ ap (λ (b : Bool). silent_turn (e ∷ leaves_walk b a p w.want w.sequence)) (sym none))
-    (again_walking a p now ready w) (events s a p frames space walk)
+    (again_walking a p now ready w) (running k w w' a p _ step is (events s a p frames space walk))
     (leaves_taken ((now == w.sequence) || no_frame_left w.taken) a p w.want w.sequence (happens s e)) ends
 
 pub again_steps : (k : Change) (w w' : WalkValue) (a p last : ℕ) → MayReadAgain w w.stage → 0 < w.n → (w.stage ≡ at ready → length w.taken ≡ w.n → (k.old_space.sequence == w.sequence) ≡ false)

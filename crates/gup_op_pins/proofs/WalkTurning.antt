@@ -14,7 +14,7 @@ use Rattle.gup_plain.specs.declared.event.PlainEvent.TheVariants as events
 use Rattle.gup_plain.specs.declared.note.What.TheVariants.{Silent, Event, Done}
 use Rattle.gup_handles.specs.Handles.{HandlesValue, unmade, held}
 use Rattle.gup_spec_events.specs.Event.{raise_flag, enter_walk, happens, run, writes_taken, read_again, leave_walk, make_handle}
-use Rattle.gup_fast.specs.Walks.{WalkValue, Stage, at, left, unbegun as unbegun_stage, walk_at, job_at, ShowsWalk, IsWalk, FitsStage}
+use Rattle.gup_fast.specs.Walks.{WalkValue, Stage, at, left, unbegun as unbegun_stage, walk_at, job_at, ShowsWalk, IsWalk, FitsStage, left_in}
 use Rattle.gup_handles.specs.Shows.{ShowsHandles}
 use Rattle.gup_spec_turns.specs.JobPlace.{job_place, unbegun, in_walk}
 use Rattle.gup_spec_turns.specs.PinPlace.{HasTaken, HasPages, IsAtStep, StandsAtPage as IsAtPage}
@@ -113,11 +113,11 @@ module _ (old new : PinningView) (a p handle page n far last sequence : ℕ) (wa
   pub turn_here : pin_turn s a p handle page n want fast far ≡ walk_turn s a p handle page n want sequence step
   turn_here = ap (pin_turn_in s a p handle page n (length (s.taken a)) want fast far) job_here
 
-  pub step_leads : (w' : WalkValue) (whats : List What) → IsStep (ch old.frames new.frames old.space new.space) w w' a p last whats
-      → new.pins ≡ old.pins → new.taken ≡ w'.taken → new.place ≡ stage_place w'.sequence w'.stage → new.last ≡ last_at w'.stage last
+  pub step_leads : (w' : WalkValue) (whats : List What) → IsStep (ch old.frames new.frames old.space old.space) w w' a p last whats
+      → new.space ≡ left_in old.space w'.stage old.space.walks → new.pins ≡ old.pins → new.taken ≡ w'.taken → new.place ≡ stage_place w'.sequence w'.stage → new.last ≡ last_at w'.stage last
       → Leads (ShowsPinning a p) new s (pin_turn s a p handle page n want fast far) whats
-  step_leads w' whats steps pins taken there ends =
-      let turn : IsStepTurn (ch old.frames new.frames old.space new.space) w' a p last whats s (walk_turn s a p handle page n want sequence step) =
+  step_leads w' whats steps counted pins taken there ends =
+      let turn : IsStepTurn (ch old.frames new.frames old.space old.space) w' a p last whats s (walk_turn s a p handle page n want sequence step) =
       steps s handle step refl shown.frames shown.space walk_here ends_now in
       let t : CoreState = run s (walk_turn s a p handle page n want sequence step).events in
       leads_alike turn_here
@@ -125,7 +125,7 @@ module _ (old new : PinningView) (a p handle page n far last sequence : ℕ) (wa
         says = turn.says;
         shown = record {
           frames = turn.frames;
-          space = turn.space;
+          space = subst (λ (x : SpaceValue). ShowsSpace p x t) (sym counted) turn.space;
           pins = subst (λ x. ShowsHandles x t) (sym pins) (shows_same old.pins s t turn.handle turn.pinned turn.references shown.pins);
           taken = turn.walk.taken ∙ sym taken;
           place = ap (λ (j : Job). job_place j (t.prepared a)) turn.walk.job ∙ place_behind p w' w'.stage (t.prepared a) ∙ sym there;
@@ -145,7 +145,7 @@ same_number : (n m : ℕ) → n ≡ m → (n == m) ≡ true
 same_number n m is = grind (arith, nat_tests)
 
 pub all_kept : (old new : PinningView) (a p handle page n far sequence : ℕ) (want : Want) (fast : Bool) → old.place ≡ in_walk sequence ready → old.last ≡ None → length old.taken ≡ n → 1 ≤ n → old.space.sequence ≡ sequence
-    → new.frames ≡ old.frames → new.space ≡ old.space → old.pins handle ≡ unmade → new.pins ≡ put handle (held a old.taken want.write) old.pins → new.taken ≡ [] → IsOver new
+    → new.frames ≡ old.frames → new.space ≡ record old.space { walks = old.space.walks - 1 } → old.pins handle ≡ unmade → new.pins ≡ put handle (held a old.taken want.write) old.pins → new.taken ≡ [] → IsOver new
     → IsTurnOf (ShowsPinning a p) (StandsAtPage a p handle page n want fast (length old.taken) far) old new (λ s. pin_turn s a p handle page n want fast far)
     (Event (events.PinOk a handle) ∷ Done (answers.Pinned n) ∷ [])
 all_kept old new a p handle page n far sequence want fast place no_end all some same frames space yet pins taken rests s shown stands =
@@ -155,7 +155,7 @@ all_kept old new a p handle page n far sequence want fast place no_end all some 
       shown = record {
         frames = subst (λ (x : FramesValue). ShowsFrames x t) (sym frames) (record { movable = f.movable; normal = f.normal; count = f.count; mark = f.mark; word = f.word });
         space = subst (λ (x : SpaceValue). ShowsSpace p x t) (sym space)
-            (record { right = sp.right; pages = sp.pages; entry = sp.entry; sequence = sp.sequence; has_pinned = sp.has_pinned; structure = sp.structure; table = sp.table });
+            (record { right = sp.right; pages = sp.pages; entry = sp.entry; sequence = sp.sequence; has_pinned = sp.has_pinned; structure = sp.structure; table = sp.table; walks = put_own p (s.walks p - 1) s.walks ∙ ap (λ (n : ℕ). n - 1) sp.walks });
         pins = subst (λ (x : HandlesValue). ShowsHandles x t) (sym pins) (pins_made old.pins a handle old.taken want.write u shown.taken writes yet shown.pins);
         taken = none_taken a handle u ∙ sym taken;
         place = ap (λ (j : Job). job_place j (s.prepared a)) (put_own a idle u1.job) ∙ sym rests.0;
@@ -217,7 +217,7 @@ has_end Stopped g sequence last page many is = is
 -- ---- the walk begins
 
 pub walk_begins : (old new : PinningView) (a p handle page n many far : ℕ) (want : Want) (fast : Bool) → (fast && far == 0) ≡ true → old.place ≡ unbegun
-    → new.frames ≡ old.frames → new.space ≡ record old.space { has_pinned = true } → new.pins ≡ old.pins → new.taken ≡ old.taken → new.place ≡ in_walk 0 entered → new.last ≡ None
+    → new.frames ≡ old.frames → new.space ≡ record old.space { has_pinned = true; walks = old.space.walks + 1 } → new.pins ≡ old.pins → new.taken ≡ old.taken → new.place ≡ in_walk 0 entered → new.last ≡ None
     → IsTurnOf (ShowsPinning a p) (StandsAtPage a p handle page n want fast many far) old new (λ s. pin_turn s a p handle page n want fast far) (Silent ∷ [])
 walk_begins old new a p handle page n many far want fast begins begun frames space pins taken place no_end s shown stands =
     let f = shown.frames in
@@ -232,7 +232,7 @@ walk_begins old new a p handle page n many far want fast begins begun frames spa
       shown = record {
         frames = subst (λ (x : FramesValue). ShowsFrames x t) (sym frames) (record { movable = f.movable; normal = f.normal; count = f.count; mark = f.mark; word = f.word });
         space = subst (λ (x : SpaceValue). ShowsSpace p x t) (sym space)
-            (record { right = sp.right; pages = sp.pages; entry = sp.entry; sequence = sp.sequence; has_pinned = put_own p true s.has_pinned; structure = sp.structure; table = sp.table });
+            (record { right = sp.right; pages = sp.pages; entry = sp.entry; sequence = sp.sequence; has_pinned = put_own p true s.has_pinned; structure = sp.structure; table = sp.table; walks = put_own p (s.walks p + 1) s.walks ∙ ap (λ (n : ℕ). n + 1) sp.walks });
         pins = subst (λ (x : HandlesValue). ShowsHandles x t) (sym pins) shown.pins;
         taken = shown.taken ∙ sym taken;
         place = ap (λ (j : Job). job_place j (s.prepared a)) (put_own a (walking p want.write want.long 0 entered) s.job) ∙ sym place;

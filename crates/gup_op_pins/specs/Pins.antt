@@ -136,6 +136,11 @@ IsReadyToPin frames taken page n want begins (in_walk sequence step) space =
     IsAtStep page n (length taken) step × IsReadyToWalk frames taken step
 IsReadyToPin frames taken page n want begins place space = ⊥
 
+-- a pin that walks is counted among the walks of its process
+abbrev pub IsCountedWalk : JobPlace → SpaceValue → Type 0
+IsCountedWalk (in_walk sequence step) space = 0 < space.walks
+IsCountedWalk place space = Unit {0}
+
 -- all pages of a pin are taken in a walk alone
 abbrev pub IsWithinPin : (n many : ℕ) → JobPlace → Type 0
 IsWithinPin n many (in_walk sequence step) = many ≤ n

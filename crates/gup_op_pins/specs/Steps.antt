@@ -5,7 +5,7 @@ use Rattle.gup_plain.specs.declared.event.PlainEvent.TheVariants.{PinDrop}
 use Rattle.gup_plain.specs.declared.note.What.{What}
 use Rattle.gup_plain.specs.declared.note.What.TheVariants.{Silent, Event}
 use Rattle.gup_space.specs.Shows.{Change, ShowsFrames, ShowsSpace}
-use Rattle.gup_fast.specs.Walks.{WalkValue, Stage, at, ShowsWalk}
+use Rattle.gup_fast.specs.Walks.{WalkValue, Stage, at, ShowsWalk, left_in}
 use Rattle.gup_spec_events.specs.State.{CoreState, WalkStep, grabbed, refused, dropping}
 use Rattle.gup_spec_events.specs.Event.{run}
 use Rattle.gup_spec_turns.specs.CoreTurn.{CoreTurn}
@@ -38,12 +38,12 @@ abbrev pub step_whats : Option PlainEvent → List What
 step_whats None = Silent ∷ []
 step_whats (Some event) = Event event ∷ []
 
--- The turn says these, and leads from this state to one that shows the frames, the process and the walk that are new; handles are
--- as before, and pages that are left to drop end at the last one.
+-- The turn says these, and leads from this state to one that shows the frames, the process and the walk that are new, where a walk
+-- that is over runs in the process no more; handles are as before, and pages that are left to drop end at the last one.
 pub record IsStepTurn (k : Change) (new : WalkValue) (a p last : ℕ) (whats : List What) (s : CoreState) (turn : CoreTurn) : Type 0 where
   pub says : turn.whats ≡ whats
   pub frames : ShowsFrames k.new_frames (run s turn.events)
-  pub space : ShowsSpace p k.new_space (run s turn.events)
+  pub space : ShowsSpace p (left_in k.new_space new.stage k.old_space.walks) (run s turn.events)
   pub walk : ShowsWalk a p new (run s turn.events)
   pub ends : EndAt (last_at new.stage last) ((run s turn.events).taken a)
   pub handle : (run s turn.events).handle ≡ s.handle

@@ -19,7 +19,7 @@ ghost use Rattle.gup_op_base.specs.Jobs.{place_of};
 ghost use Rattle.gup_op_base.specs.declared.jobs.JobPlace.TheVariants.{Unbegun, Single, Shared};
 ghost use Rattle.gup_op_base.specs.Tidy.{IsTidy};
 ghost use Rattle.gup_op_base.specs.Said.{TellsTurn, whats_of, silent_said};
-ghost use Rattle.gup_op_pins.specs.Pins.{IsPinTurn, last_page, IsReadyToPin, IsWithinPin, IsCleared, IsMade, IsEnded, IsTaken, tried_whats, ended_whats, pinning_view, raised, fault_to_pin, want_of};
+ghost use Rattle.gup_op_pins.specs.Pins.{IsPinTurn, last_page, IsReadyToPin, IsCountedWalk, IsWithinPin, IsCleared, IsMade, IsEnded, IsTaken, tried_whats, ended_whats, pinning_view, raised, fault_to_pin, want_of};
 
 use crate::walks::{begin_turn, walk_turn};
 use arrayvec::ArrayVec;
@@ -71,6 +71,8 @@ pub fn pin(
     requires tidy { IsTidy (frames_of frames.old) (space_of space.old) }
     requires ready { IsReadyToPin (frames_of frames.old) taken.old.items (call.page + length taken.old.items) call.n call.want
         (call.fast && far == 0) (place_of place) (space_of space.old) }
+    requires walks { (space_of space.old).walks < 2 ^ 40 }
+    requires counted { IsCountedWalk (place_of place) (space_of space.old) }
     requires few { (f : ℕ) → (frames_of frames.old).count f < 2 ^ 40 }
     requires unmade { handles_of handles.old call.handle ≡ unmade }
     requires within { IsWithinPin call.n (length taken.old.items) (place_of place) }

@@ -5,7 +5,7 @@ ghost use Rattle.gup_space.specs.Space.{space_of};
 ghost use Rattle.gup_space.specs.Shows.{change_of};
 ghost use Rattle.gup_spec_events.specs.State.{WalkStep, ready};
 ghost use Rattle.gup_fast.specs.Stages.{stage_of};
-ghost use Rattle.gup_fast.specs.Walks.{at};
+ghost use Rattle.gup_fast.specs.Walks.{at, left_in};
 ghost use Rattle.gup_op_base.specs.Jobs.{place_of, step_of};
 ghost use Rattle.gup_op_base.specs.Tidy.{IsTidy};
 ghost use Rattle.gup_handles.specs.Handles.{HandleValue, handles_of, unmade};
@@ -26,14 +26,15 @@ use gup_op_base::{Head, JobPlace, WalkPlace, page_behind};
 use gup_plain::{Answer, Journal, PlainEvent};
 use gup_space::Space;
 
-/// The first turn of a pin that walks: the process has pinned from now on, and the walk runs (Linux's `gup_fast_fallback`,
-/// `mm/gup.c`).
+/// The first turn of a pin that walks: the process has pinned from now on, and one walk more runs in it (Linux's
+/// `gup_fast_fallback`, `mm/gup.c`).
 pub(crate) fn begin_turn(
     space: &mut Space,
     journal: &mut Journal,
     head: &Head,
     call: PinCall,
 ) -> JobPlace
+    requires walks { (space_of space.old).walks < 2 ^ 40 }
     requires room { 3 ≤ journal.old.room }
     ensures { TellsTurn head.now journal.old journal.new false
         (λ said. (frames : FrameLists) (handles : List HandleValue) (taken : List ℕ) (many far : ℕ) → (call.fast && far == 0) ≡ true
@@ -41,6 +42,7 @@ pub(crate) fn begin_turn(
         (pinning_view frames space.new handles taken result) (whats_of said)) }
 {
     space.set_pinned();
+    space.enter();
     head.silent(journal);
     JobPlace::Walking {
         place: WalkPlace::Entered,
@@ -53,9 +55,9 @@ pub(crate) fn begin_turn(
 /// stands then.
 ///
 /// A walk that has kept all pages, and finds the sequence as it was, makes the handle; one that stopped before a page leaves the
-/// slow way those that it has (Linux's `gup_fast_fallback`, `mm/gup.c`).
+/// slow way those that it has (Linux's `gup_fast_fallback`, `mm/gup.c`). A walk that is over runs in the process no more.
 pub(crate) fn walk_turn(
-    space: &Space,
+    space: &mut Space,
     frames: &mut Frames,
     handles: &mut Handles,
     taken: &mut ArrayVec<FrameNo, 16>,
@@ -66,7 +68,7 @@ pub(crate) fn walk_turn(
     page: PageNo,
     sequence: u64,
 ) -> (bool, JobPlace)
-    requires tidy { IsTidy (frames_of frames.old) (space_of space.now) }
+    requires tidy { IsTidy (frames_of frames.old) (space_of space.old) }
     requires here { IsAtStep (call.page + length taken.old.items) call.n (length taken.old.items) (step_of place page) }
     requires steps { IsReadyToWalk (frames_of frames.old) taken.old.items (step_of place page) }
     requires few { (f : ℕ) → (frames_of frames.old).count f < 2 ^ 40 }
@@ -75,11 +77,12 @@ pub(crate) fn walk_turn(
     requires some { 1 ≤ call.n }
     requires most { call.n ≤ 16 }
     requires range { call.page + call.n ≤ 2 ^ 35 }
+    requires walks { 0 < (space_of space.old).walks }
     requires room { 3 ≤ journal.old.room }
     ensures { TellsTurn head.now journal.old journal.new result.0
         (λ said. (far : ℕ) → IsPinTurn head.now.actor call (length taken.old.items) far
-        (pinning_view frames.old space.now handles.old taken.old.items (Walking place page sequence))
-        (pinning_view frames.new space.now handles.new taken.new.items result.1) (whats_of said)) }
+        (pinning_view frames.old space.old handles.old taken.old.items (Walking place page sequence))
+        (pinning_view frames.new space.new handles.new taken.new.items result.1) (whats_of said)) }
 {
     let got = taken.len() as u8;
     if place == WalkPlace::Ready && got == call.n && space.sequence() == sequence {
@@ -92,9 +95,9 @@ pub(crate) fn walk_turn(
     (false, next)
 }
 
-// The walk has kept all pages, and the sequence is as it was: the handle is made.
+// The walk has kept all pages, and the sequence is as it was: the handle is made, and the walk is over.
 fn all_turn(
-    space: &Space,
+    space: &mut Space,
     handles: &mut Handles,
     taken: &mut ArrayVec<FrameNo, 16>,
     journal: &mut Journal,
@@ -106,15 +109,17 @@ fn all_turn(
     requires unmade { handles_of handles.old call.handle ≡ unmade }
     requires all { length taken.old.items ≡ call.n }
     requires some { 1 ≤ call.n }
-    requires same { (space_of space.now).sequence ≡ sequence }
+    requires same { (space_of space.old).sequence ≡ sequence }
+    requires walks { 0 < (space_of space.old).walks }
     requires room { 3 ≤ journal.old.room }
     ensures { TellsTurn head.now journal.old journal.new true
         (λ said. (frames : FrameLists) (far : ℕ) → IsPinTurn head.now.actor call (length taken.old.items) far
-        (pinning_view frames space.now handles.old taken.old.items (Walking Ready page sequence))
-        (pinning_view frames space.now handles.new taken.new.items Unbegun) (whats_of said)) }
+        (pinning_view frames space.old handles.old taken.old.items (Walking Ready page sequence))
+        (pinning_view frames space.new handles.new taken.new.items Unbegun) (whats_of said)) }
 {
     let actor = head.actor;
     let handle = call.handle;
+    space.leave();
     hold(handles, taken, actor, handle, call.want.write);
     head.done(
         journal,
@@ -125,7 +130,7 @@ fn all_turn(
 
 // A step after which the operation goes on.
 fn step_turn(
-    space: &Space,
+    space: &mut Space,
     frames: &mut Frames,
     taken: &mut ArrayVec<FrameNo, 16>,
     journal: &mut Journal,
@@ -136,7 +141,7 @@ fn step_turn(
     page: PageNo,
     sequence: u64,
 ) -> JobPlace
-    requires tidy { IsTidy (frames_of frames.old) (space_of space.now) }
+    requires tidy { IsTidy (frames_of frames.old) (space_of space.old) }
     requires here { IsAtStep (call.page + got) call.n got (step_of place page) }
     requires steps { IsReadyToWalk (frames_of frames.old) taken.old.items (step_of place page) }
     requires few { (f : ℕ) → (frames_of frames.old).count f < 2 ^ 40 }
@@ -146,20 +151,33 @@ fn step_turn(
     requires most { call.n ≤ 16 }
     requires range { call.page + call.n ≤ 2 ^ 35 }
     requires other { step_of place page ≡ ready → length taken.old.items ≡ call.n
-        → ((space_of space.now).sequence == sequence) ≡ false }
+        → ((space_of space.old).sequence == sequence) ≡ false }
+    requires walks { 0 < (space_of space.old).walks }
     requires room { 3 ≤ journal.old.room }
     ensures { TellsTurn head.now journal.old journal.new false
         (λ said. (handles : List HandleValue) (far : ℕ) → IsPinTurn head.now.actor call (length taken.old.items) far
-        (pinning_view frames.old space.now handles taken.old.items (Walking place page sequence))
-        (pinning_view frames.new space.now handles taken.new.items result) (whats_of said)) }
+        (pinning_view frames.old space.old handles taken.old.items (Walking place page sequence))
+        (pinning_view frames.new space.new handles taken.new.items result) (whats_of said)) }
 {
     let stage = stage_at(place, page);
     let last = end_of(&stage, page, call.page, got);
     let mut walk = Walk::new(call.page, call.n, call.want);
     walk.resume(sequence, stage, taken);
-    walk_on(
+    let next = walk_on(
         &mut walk, space, frames, taken, journal, head, call, got, last,
-    )
+    );
+    leave_where_over(space, walk.stage());
+    next
+}
+
+// A walk of the process that is over at this stage runs in it no more.
+fn leave_where_over(space: &mut Space, stage: Stage)
+    requires { 0 < (space_of space.old).walks }
+    ensures { space_of space.new ≡ left_in (space_of space.old) (stage_of stage) (space_of space.old).walks }
+{
+    if stage == Stage::Left {
+        space.leave();
+    }
 }
 
 // The walk's next step is taken, and told.

@@ -76,21 +76,23 @@ stands_same a f n j a' f' n' j' h =
     let four : j ≡ j' = place_same j j' y.1 in
     cc
 
-process_same : (p : ℕ) (birth : Birth) (had : Bool) (s t : Option ℕ) (n q : ℕ) (p' : ℕ) (birth' : Birth) (had' : Bool) (s' t' : Option ℕ) (n' q' : ℕ) → fact_eq.eq-value.it (facts.Process p birth had s t n q) (facts.Process p' birth' had' s' t' n' q') ≡ true → facts.Process p birth had s t n q ≡ facts.Process p' birth' had' s' t' n' q'
-process_same p birth had s t n q p' birth' had' s' t' n' q' h =
+process_same : (p : ℕ) (birth : Birth) (had : Bool) (s t : Option ℕ) (n q m : ℕ) (p' : ℕ) (birth' : Birth) (had' : Bool) (s' t' : Option ℕ) (n' q' m' : ℕ) → fact_eq.eq-value.it (facts.Process p birth had s t n q m) (facts.Process p' birth' had' s' t' n' q' m') ≡ true → facts.Process p birth had s t n q m ≡ facts.Process p' birth' had' s' t' n' q' m'
+process_same p birth had s t n q m p' birth' had' s' t' n' q' m' h =
     let w = both (p == p') _ h in
     let x = both (birth_eq.eq-value.it birth birth') _ w.1 in
     let y = both (beq had had') _ x.1 in
     let z = both (option_eq (λ (i j : ℕ). i == j) s s') _ y.1 in
     let v = both (option_eq (λ (i j : ℕ). i == j) t t') _ z.1 in
     let r = both (n == n') _ v.1 in
+    let i = both (q == q') _ r.1 in
     let one : p ≡ p' = alike p p' w.0 in
     let two : birth ≡ birth' = birth_same birth birth' x.0 in
     let three : had ≡ had' = flag_same had had' y.0 in
     let four : s ≡ s' = holder_same s s' z.0 in
     let five : t ≡ t' = holder_same t t' v.0 in
     let six : n ≡ n' = alike n n' r.0 in
-    let seven : q ≡ q' = alike q q' r.1 in
+    let seven : q ≡ q' = alike q q' i.0 in
+    let eight : m ≡ m' = alike m m' i.1 in
     cc
 
 -- One variant at a time: `search` gives up at all of them at once.
@@ -98,19 +100,19 @@ pub fact_same : (a b : Fact) → fact_eq.eq-value.it a b ≡ true → a ≡ b
 fact_same (facts.Zones movable normal) b h = search rules
 fact_same (facts.Frame mark frame count) b h = search rules
 fact_same (facts.Word frame word value) b h = search rules
-fact_same (facts.Process proc birth has_pinned structure table pages sequence) (facts.Zones k l) h = absurd (cc)
-fact_same (facts.Process proc birth has_pinned structure table pages sequence) (facts.Frame k l o) h = absurd (cc)
-fact_same (facts.Process proc birth has_pinned structure table pages sequence) (facts.Word k l o) h = absurd (cc)
-fact_same (facts.Process proc birth has_pinned structure table pages sequence) (facts.Process proc' birth' has_pinned' structure' table' pages' sequence') h = process_same proc birth has_pinned structure table pages sequence proc' birth' has_pinned' structure' table' pages' sequence' h
-fact_same (facts.Process proc birth has_pinned structure table pages sequence) (facts.Page k l o u) h = absurd (cc)
-fact_same (facts.Process proc birth has_pinned structure table pages sequence) (facts.Pin k l o u) h = absurd (cc)
-fact_same (facts.Process proc birth has_pinned structure table pages sequence) (facts.Pinned k l o) h = absurd (cc)
-fact_same (facts.Process proc birth has_pinned structure table pages sequence) (facts.Got k l o) h = absurd (cc)
-fact_same (facts.Process proc birth has_pinned structure table pages sequence) (facts.Gone k) h = absurd (cc)
-fact_same (facts.Process proc birth has_pinned structure table pages sequence) (facts.Taken k l o) h = absurd (cc)
-fact_same (facts.Process proc birth has_pinned structure table pages sequence) (facts.Stored k l o) h = absurd (cc)
-fact_same (facts.Process proc birth has_pinned structure table pages sequence) (facts.Filled k l o u) h = absurd (cc)
-fact_same (facts.Process proc birth has_pinned structure table pages sequence) (facts.Stands actor' far' answered' job') h = absurd (cc)
+fact_same (facts.Process proc birth has_pinned structure table pages sequence walks) (facts.Zones k l) h = absurd (cc)
+fact_same (facts.Process proc birth has_pinned structure table pages sequence walks) (facts.Frame k l o) h = absurd (cc)
+fact_same (facts.Process proc birth has_pinned structure table pages sequence walks) (facts.Word k l o) h = absurd (cc)
+fact_same (facts.Process proc birth has_pinned structure table pages sequence walks) (facts.Process proc' birth' has_pinned' structure' table' pages' sequence' walks') h = process_same proc birth has_pinned structure table pages sequence walks proc' birth' has_pinned' structure' table' pages' sequence' walks' h
+fact_same (facts.Process proc birth has_pinned structure table pages sequence walks) (facts.Page k l o u) h = absurd (cc)
+fact_same (facts.Process proc birth has_pinned structure table pages sequence walks) (facts.Pin k l o u) h = absurd (cc)
+fact_same (facts.Process proc birth has_pinned structure table pages sequence walks) (facts.Pinned k l o) h = absurd (cc)
+fact_same (facts.Process proc birth has_pinned structure table pages sequence walks) (facts.Got k l o) h = absurd (cc)
+fact_same (facts.Process proc birth has_pinned structure table pages sequence walks) (facts.Gone k) h = absurd (cc)
+fact_same (facts.Process proc birth has_pinned structure table pages sequence walks) (facts.Taken k l o) h = absurd (cc)
+fact_same (facts.Process proc birth has_pinned structure table pages sequence walks) (facts.Stored k l o) h = absurd (cc)
+fact_same (facts.Process proc birth has_pinned structure table pages sequence walks) (facts.Filled k l o u) h = absurd (cc)
+fact_same (facts.Process proc birth has_pinned structure table pages sequence walks) (facts.Stands actor' far' answered' job') h = absurd (cc)
 fact_same (facts.Page proc rights entry page) b h = search rules
 fact_same (facts.Pin actor given write handle) b h = search rules
 fact_same (facts.Pinned place frame handle) b h = search rules
@@ -122,7 +124,7 @@ fact_same (facts.Filled mirror proc frame page) b h = search rules
 fact_same (facts.Stands actor far answered job) (facts.Zones k l) h = absurd (cc)
 fact_same (facts.Stands actor far answered job) (facts.Frame k l o) h = absurd (cc)
 fact_same (facts.Stands actor far answered job) (facts.Word k l o) h = absurd (cc)
-fact_same (facts.Stands actor far answered job) (facts.Process proc' birth' has_pinned' structure' table' pages' sequence') h = absurd (cc)
+fact_same (facts.Stands actor far answered job) (facts.Process proc' birth' has_pinned' structure' table' pages' sequence' walks') h = absurd (cc)
 fact_same (facts.Stands actor far answered job) (facts.Page k l o u) h = absurd (cc)
 fact_same (facts.Stands actor far answered job) (facts.Pin k l o u) h = absurd (cc)
 fact_same (facts.Stands actor far answered job) (facts.Pinned k l o) h = absurd (cc)

@@ -90,6 +90,7 @@ pub record IsShownAs (space other : SpaceValue) : Type 0 where
   pub has_pinned : space.has_pinned ≡ other.has_pinned
   pub structure : space.structure ≡ other.structure
   pub table : space.table ≡ other.table
+  pub walks : space.walks ≡ other.walks
 
 -- The events, each of them of the one process, lead from what was before a call to what is after it, its table lock free
 -- for both; the call left that lock as it was.

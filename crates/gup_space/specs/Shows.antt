@@ -22,6 +22,7 @@ pub record ShowsSpace (p : ℕ) (space : SpaceValue) (s : CoreState) : Type 0 wh
   pub has_pinned : s.has_pinned p ≡ space.has_pinned
   pub structure : s.structure p ≡ space.structure
   pub table : s.table p ≡ space.table
+  pub walks : s.walks p ≡ space.walks
 
 -- Frames and a process, before a call and after it.
 pub record Change : Type 0 where

@@ -18,6 +18,8 @@ pub record SpaceValue : Type 0 where
   -- the actors that hold its structure lock and its table lock
   pub structure : Option ℕ
   pub table : Option ℕ
+  -- how many lockless walks run in it
+  pub walks : ℕ
 
 abbrev pub no_space : SpaceValue
 no_space =
@@ -30,6 +32,7 @@ no_space =
       has_pinned = false;
       structure = None;
       table = None;
+      walks = 0;
     }
 
 -- What a process is kept as: rows of the mapped pages and of those with an entry, and the rest.
@@ -40,6 +43,7 @@ pub record SpaceParts : Type 0 where
   pub has_pinned : Bool
   pub structure : Option ℕ
   pub table : Option ℕ
+  pub walks : ℕ
 
 -- the process that is kept so
 abbrev pub space_of : SpaceParts → SpaceValue
@@ -53,6 +57,7 @@ space_of s =
       has_pinned = s.has_pinned;
       structure = s.structure;
       table = s.table;
+      walks = s.walks;
     }
 
 -- how many entries there are when this page gets one, or has none any more

@@ -1,5 +1,5 @@
 //! One process of the machine.
-ghost use Rattle.std.specs.Prelude.{◌≡◌, ℕ, ◌+◌, ◌<◌, ◌≤◌, ◌^◌, ◌↔◌, true, false, is_some, is_err, None, Some, Err, IfOk, IfSome, IfNone, OnOk, OnErr, IsSome, MatchOption};
+ghost use Rattle.std.specs.Prelude.{◌≡◌, ℕ, ◌+◌, ◌-◌, ◌<◌, ◌≤◌, ◌^◌, ◌↔◌, true, false, is_some, is_err, None, Some, Err, IfOk, IfSome, IfNone, OnOk, OnErr, IsSome, MatchOption};
 ghost use Rattle.gup_plain.specs.Denial.{any_mapped, any_unmapped};
 ghost use Rattle.gup_plain.specs.Pages.{mapped_pages};
 ghost use Rattle.gup_spec_events.specs.Event.{entry_of};
@@ -21,6 +21,7 @@ pub struct Space {
     has_pinned: bool,
     structure: Option<ActorNo>,
     table: Option<ActorNo>,
+    walks: u64,
 }
 
 impl Model for Space {
@@ -35,12 +36,13 @@ impl Model for Space {
       has_pinned = s.has_pinned;
       structure = s.structure;
       table = s.table;
+      walks = s.walks;
     } };
 }
 
 impl Space {
-    /// A process without mappings and entries, which has never forked or pinned and whose locks are free, with the
-    /// memory for all that it will have: no other call takes any.
+    /// A process without mappings and entries, which has never forked or pinned, whose locks are free and in which no
+    /// walk runs, with the memory for all that it will have: no other call takes any.
     pub fn new(alloc: Global) -> Result<Space, NoMemory>
         ensures { IfOk result (λ space. space_of space ≡ no_space) }
     {
@@ -53,6 +55,7 @@ impl Space {
             has_pinned: false,
             structure: None,
             table: None,
+            walks: 0,
         })
     }
 
@@ -265,5 +268,32 @@ impl Space {
         ensures { space_of self.new ≡ record (space_of self.old) { table = holder } }
     {
         self.table = holder;
+    }
+
+    /// How many lockless walks run in the process.
+    #[inline]
+    pub fn walks(&self) -> u64
+        ensures { result ≡ (space_of self.now).walks }
+    {
+        self.walks
+    }
+
+    /// One lockless walk more runs in the process. While one does, no page table that was taken out is used again (of
+    /// Linux's `local_irq_save` in `gup_fast`).
+    #[inline]
+    pub fn enter(&mut self)
+        requires { (space_of self.old).walks < 2 ^ 40 }
+        ensures { space_of self.new ≡ record (space_of self.old) { walks = (space_of self.old).walks + 1 } }
+    {
+        self.walks += 1;
+    }
+
+    /// One of these walks is over (of Linux's `local_irq_restore` in `gup_fast`).
+    #[inline]
+    pub fn leave(&mut self)
+        requires { 0 < (space_of self.old).walks }
+        ensures { space_of self.new ≡ record (space_of self.old) { walks = (space_of self.old).walks - 1 } }
+    {
+        self.walks -= 1;
     }
 }

@@ -79,3 +79,15 @@ fn entries_are_set_and_taken_away(rt: HostRuntime) -> Result<(), Fail> {
     }
     Ok(())
 }
+
+#[test]
+fn walks_are_counted(rt: HostRuntime) -> Result<(), Fail> {
+    let mut space = Space::new(rt.alloc()).or(Err("memory"))?;
+    assert_eq!(rt; space.walks(), 0);
+    space.enter();
+    space.enter();
+    assert_eq!(rt; space.walks(), 2);
+    space.leave();
+    assert_eq!(rt; space.walks(), 1);
+    Ok(())
+}

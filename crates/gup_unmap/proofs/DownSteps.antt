@@ -38,6 +38,7 @@ unmapped F S S' page None entry had none space =
             has_pinned = refl;
             structure = refl;
             table = refl;
+            walks = refl;
           });
       table = ap (λ (x : SpaceValue). x.table) space;
     })
@@ -60,6 +61,7 @@ unmapped_empty F S S' page (Some rights) None had some found none space =
             has_pinned = refl;
             structure = refl;
             table = refl;
+            walks = refl;
           });
       table = ap (λ (x : SpaceValue). x.table) space;
     })
@@ -83,6 +85,7 @@ unmapped_entry F F' S S1 S' page (Some rights) (Some d) e had some found first s
             has_pinned = refl;
             structure = refl;
             table = refl;
+            walks = refl;
           });
       table = ap (λ (x : SpaceValue). x.table) (space ∙ ap (λ (x : SpaceValue). with_entry page None x) first);
     })

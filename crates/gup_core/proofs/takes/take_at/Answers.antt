@@ -112,6 +112,18 @@ take_pin-requires-clause-ready c space pages here taken =
     let ready = c.requires.ready c.unwrap-proc.result (process_is c.args.proc c.unwrap-proc.result c.unwrap-proc.ensures) in
     ready.pin space pages pin.handle pin.page pin.n pin.want pin.fast pin.is here taken
 
+pub take_pin-requires-clause-few_walks : goal.take_pin-requires-clause-few_walks
+take_pin-requires-clause-few_walks c =
+    let pin = c.in-Pin in
+    let ready = c.requires.ready c.unwrap-proc.result (process_is c.args.proc c.unwrap-proc.result c.unwrap-proc.ensures) in
+    ready.few_walks
+
+pub take_pin-requires-clause-counted : goal.take_pin-requires-clause-counted
+take_pin-requires-clause-counted c space here =
+    let pin = c.in-Pin in
+    let ready = c.requires.ready c.unwrap-proc.result (process_is c.args.proc c.unwrap-proc.result c.unwrap-proc.ensures) in
+    ready.walk space pin.handle pin.page pin.n pin.want pin.fast pin.is here
+
 pub take_pin-requires-clause-few : goal.take_pin-requires-clause-few
 take_pin-requires-clause-few c =
     let pin = c.in-Pin in

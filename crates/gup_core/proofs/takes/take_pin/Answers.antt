@@ -19,6 +19,16 @@ pin-over-requires-clause-ready c =
     (was_there c.args.parts.now.spaces.items c.get.result c.args.proc c.index_mut.result.now c.index_mut.ensures.value c.get.ensures.value c.requires.there)
     (was_there c.args.parts.now.taken.items c.get-2.result c.args.head.now.actor c.index_mut-2.result.now c.index_mut-2.ensures.value c.get-2.ensures.value c.requires.actor)
 
+pub pin-over-requires-clause-walks : goal.pin-over-requires-clause-walks
+pin-over-requires-clause-walks c =
+    c.requires.few_walks c.args.proc c.index_mut.result.now
+    (was_there c.args.parts.now.spaces.items c.get.result c.args.proc c.index_mut.result.now c.index_mut.ensures.value c.get.ensures.value c.requires.there)
+
+pub pin-over-requires-clause-counted : goal.pin-over-requires-clause-counted
+pin-over-requires-clause-counted c =
+    c.requires.counted c.index_mut.result.now
+    (was_there c.args.parts.now.spaces.items c.get.result c.args.proc c.index_mut.result.now c.index_mut.ensures.value c.get.ensures.value c.requires.there)
+
 pub pin-over-requires-clause-within : goal.pin-over-requires-clause-within
 pin-over-requires-clause-within c =
     c.requires.taken c.index_mut-2.result.now

@@ -17,7 +17,7 @@ returns c =
       tells = c.done.ensures;
       ends = refl;
       is_so = λ frames far.
-          all_kept (pinning_view frames x.space.now x.handles.now x.taken.now.items (Walking Ready x.page x.sequence)) (pinning_view frames x.space.now c.hold.new.handles c.hold.new.taken.items Unbegun)
+          all_kept (pinning_view frames x.space.now x.handles.now x.taken.now.items (Walking Ready x.page x.sequence)) (pinning_view frames c.leave.new.self c.hold.new.handles c.hold.new.taken.items Unbegun)
           a x.call.proc x.call.handle x.call.page x.call.n far x.sequence x.call.want x.call.fast refl refl c.requires.all c.requires.some c.requires.same
-          refl refl c.requires.unmade c.hold.ensures.held c.hold.ensures.empty (refl, refl);
+          refl c.leave.ensures c.requires.unmade c.hold.ensures.held c.hold.ensures.empty (refl, refl);
     }

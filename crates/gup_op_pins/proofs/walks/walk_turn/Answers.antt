@@ -16,7 +16,7 @@ returns-then-sequence c =
       tells = turn.tells;
       ends = turn.ends;
       is_so = λ far.
-          subst (λ (k : WalkPlace). IsPinTurn x.head.now.actor x.call (length x.taken.now.items) far (pinning_view x.frames.now x.space.now x.handles.now x.taken.now.items (Walking k x.page x.sequence)) (pinning_view x.frames.now x.space.now c.all_turn.new.handles c.all_turn.new.taken.items Unbegun) (whats_of turn.said))
+          subst (λ (k : WalkPlace). IsPinTurn x.head.now.actor x.call (length x.taken.now.items) far (pinning_view x.frames.now x.space.now x.handles.now x.taken.now.items (Walking k x.page x.sequence)) (pinning_view x.frames.now c.all_turn.new.space c.all_turn.new.handles c.all_turn.new.taken.items Unbegun) (whats_of turn.said))
           (sym is) (turn.is_so x.frames.now far);
     }
 

@@ -13,6 +13,6 @@ returns-clause-walk c = rw (← c.self.view_is) refl
 
 pub returns-clause-events : goal.returns-clause-events
 returns-clause-events c frames =
-    begins (frames_of frames) (space_of c.args.space.now) _ c.args.self.now _
+    begins (frames_of frames) (space_of c.args.space.now) _ c.args.self.now _ c.requires.at
     (none_read c.args.self.now (subst IsWalk c.self.view_is c.self.invariant) c.requires.at)
     (returns-clause-walk c) (returns-clause-space c)

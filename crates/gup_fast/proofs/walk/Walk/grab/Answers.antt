@@ -12,5 +12,5 @@ returns-clause-walk c page e is = search rules
 
 pub returns-clause-events : goal.returns-clause-events
 returns-clause-events c space page e is =
-    grabbing (frames_of c.args.frames.now) _ (space_of space) c.args.self.now _ page e _
+    grabbing (frames_of c.args.frames.now) _ (space_of space) c.args.self.now _ page e _ is
     (returns-clause-frames c page e is) (returns-clause-walk c page e is)

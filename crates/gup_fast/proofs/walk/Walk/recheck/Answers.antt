@@ -10,7 +10,7 @@ returns-then-is_some-clause-walk c page e is = search rules
 
 pub returns-then-is_some-clause-events : goal.returns-then-is_some-clause-events
 returns-then-is_some-clause-events c frames page e is =
-    rechecking (frames_of frames) (space_of c.args.space.now) c.args.self.now _ page e _
+    rechecking (frames_of frames) (space_of c.args.space.now) c.args.self.now _ page e _ is
     (returns-then-is_some-clause-walk c page e is)
 
 pub invariant_of-self-2 : goal.invariant_of-self-2
