@@ -1,22 +1,22 @@
 -- A page gets the tables that it lacks, and its empty tables go.
-use Rattle.std.proofs.Common.{◌≡◌, ◌≢◌, ℕ, zero, suc, ◌+◌, ◌-◌, ◌<◌, ◌≤◌, ◌==◌, nat_le, nat_lt, Bool, true, false, if◌then◌else◌, List, [], ◌∷◌, ◌++◌, Option, Some, None, IsSome, refl, ap, subst, sym, ◌∙◌, arith}
+use Rattle.std.proofs.Common.{◌≡◌, ℕ, zero, suc, ◌+◌, ◌<◌, ◌≤◌, ◌==◌, nat_lt, Bool, true, false, if◌then◌else◌, List, [], ◌∷◌, ◌++◌, Option, Some, None, IsSome, refl, ap, subst, sym, ◌∙◌, arith}
 use Rattle.std.proofs.lemmas.Bool.Decides.{nat_tests}
 use Rattle.gup_plain.specs.Event.{page_numbers}
-use Rattle.gup_plain.specs.Put.{put, put2, lowest}
+use Rattle.gup_plain.specs.Put.{put}
 use Rattle.gup_plain.proofs.Sums.{one_more_passing}
 use Rattle.gup_bits.proofs.Lowest.{lowest_some}
 use Rattle.gup_tables.proofs.FreeTables.{none_lowest}
 use Rattle.gup_tables.proofs.Places.{put_same}
 use Rattle.gup_spec_tables.specs.declared.place.Place.{Place}
-use Rattle.gup_spec_tables.specs.Tables.{table_numbers, on_path, lacks, detachable}
+use Rattle.gup_spec_tables.specs.Tables.{table_numbers, lacks, detachable}
 use Rattle.gup_spec_events.specs.State.{CoreState}
-use Rattle.gup_spec_events.specs.Event.{CoreEvent, Can, happens, run, tree_in, MayShape, add_table, take_out, reclaim}
+use Rattle.gup_spec_events.specs.Event.{CoreEvent, happens, run, tree_in, MayShape, add_table, take_out, reclaim}
 use Rattle.gup_spec_events.specs.Growth.{reclaims, lowest_table, free_tables, adds_one, adds, has_enough, adds_all, grows, takes_one, takes_out, retires}
 use Rattle.gup_spec_events.specs.Invariant.{AllCan}
 use Rattle.gup_spec_events.proofs.Runs.{run_behind, can_behind}
 use Rattle.gup_law_tables.specs.Standing.{TablesStand, IsButForTables}
 use Rattle.gup_law_tables.proofs.Trees.{lacks_added, lacks_removed}
-use Rattle.gup_law_tables.proofs.Owners.{not_had, unplaced}
+use Rattle.gup_law_tables.proofs.Owners.{unplaced}
 use Rattle.gup_law_tables.proofs.TableEvents.{stay}
 
 -- What only changes tables, one list of events behind another.

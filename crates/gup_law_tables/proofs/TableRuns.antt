@@ -1,9 +1,9 @@
 -- From the start on, whatever the events.
-use Rattle.std.proofs.Common.{◌≡◌, ℕ, ◌<◌, ◌≤◌, nat_lt, Bool, true, false, List, [], ◌∷◌, Option, Some, None, refl, arith}
+use Rattle.std.proofs.Common.{ℕ, ◌≤◌, Bool, List, [], ◌∷◌, None, arith}
 use Rattle.std.proofs.lemmas.Bool.Decides.{nat_tests}
 use Rattle.gup_spec_tables.specs.Tables.{table_numbers}
 use Rattle.gup_spec_events.specs.State.{CoreState, core_start}
-use Rattle.gup_spec_events.specs.Event.{CoreEvent, Can, happens, run}
+use Rattle.gup_spec_events.specs.Event.{CoreEvent, happens, run}
 use Rattle.gup_spec_events.specs.Invariant.{AllCan}
 use Rattle.gup_law_tables.specs.Standing.{IsTree, TablesStand}
 use Rattle.gup_law_tables.proofs.TableEvents.{stay}

@@ -1,5 +1,5 @@
 -- A table is put into a tree where one is missing, and taken out of it where it is empty.
-use Rattle.std.proofs.Common.{◌≡◌, ◌≢◌, ℕ, ◌+◌, ◌/◌, ◌%◌, ◌^◌, ◌<◌, ◌≤◌, ◌==◌, ◌⊎◌, inl, inr, nat_lt, Bool, true, false, not, cond, is_some, Option, Some, None, IsSome, refl, ap, sym, ◌∙◌, ⊎_elim, arith}
+use Rattle.std.proofs.Common.{◌≡◌, ◌≢◌, ℕ, ◌+◌, ◌/◌, ◌%◌, ◌^◌, ◌<◌, ◌==◌, ◌⊎◌, inl, inr, nat_lt, Bool, true, false, not, cond, is_some, Option, Some, None, IsSome, refl, ap, sym, ◌∙◌, ⊎_elim, arith}
 use Rattle.std.proofs.lemmas.Bool.{cases_eq}
 use Rattle.std.proofs.lemmas.Bool.Decides.{nat_tests}
 use Rattle.gup_plain.specs.Denial.{any_below}
@@ -10,7 +10,7 @@ use Rattle.gup_spec_tables.specs.declared.place.Place.{Place}
 use Rattle.gup_spec_tables.specs.Tables.{table_numbers, table_words, TreeValue, table_at, on_path, above, below, link_to, word_of, word_where, word_here, is_empty, if_empty, lacks, detachable}
 use Rattle.gup_tables.proofs.Detachable.{stands}
 use Rattle.gup_tables.proofs.Paths.{path_above}
-use Rattle.gup_tables.proofs.Places.{ArePlaced, no_table, other_level, put_same, put_other, at_some, found, added_placed, added_here, added_other, removed_placed, removed_here, removed_other, below_above}
+use Rattle.gup_tables.proofs.Places.{ArePlaced, other_level, put_same, put_other, at_some, found, added_placed, added_here, added_other, removed_placed, removed_here, removed_other, below_above}
 use Rattle.gup_tables.proofs.TreeAdded.{cases_place}
 use Rattle.gup_law_tables.specs.Standing.{IsTree}
 use Rattle.gup_law_tables.proofs.PathLevels.{split, few, fewer}

@@ -11,8 +11,7 @@ use Rattle.gup_plain.specs.declared.note.Waiting.TheVariants as waitings
 use Rattle.gup_script.specs.declared.op.Op.{Op}
 use Rattle.gup_script.specs.declared.op.Op.TheVariants.{Pin, Unpin, Give, Take, Transfer}
 use Rattle.gup_spec_events.specs.State.{CoreState, Job, idle, plain_of}
-use Rattle.gup_spec_events.specs.Event.{CoreEvent, AreUnlocked, happens, told, run}
-use Rattle.gup_spec_events.specs.Invariant.{AllCan}
+use Rattle.gup_spec_events.specs.Event.{CoreEvent, AreUnlocked, told, run}
 use Rattle.gup_law_base.specs.Sound.{IsSound, keeps_table, keeps_structure}
 use Rattle.gup_law_events.specs.Law.{with_told, all_told}
 use Rattle.gup_spec_journal.specs.Place.{Place, Doer, place_after}
@@ -25,7 +24,6 @@ use Rattle.gup_law_turns.proofs.CalmStates.{IsCalm, Strand, AreTurnEvents}
 use Rattle.gup_law_turns.proofs.CountedFrames.{AreCountedThere}
 use Rattle.gup_law_turns.proofs.TurnShapes.{references_of, FitsAt, Rests, TurnOf, AtRest, IsDone, child_of, strand_of}
 use Rattle.std.specs.Prelude.{◌⊎◌}
-use Rattle.gup_spec_events.proofs.Runs.{run_behind, can_behind}
 
 -- A state between two turns, in which process p is born.
 pub record IsOpen (s : CoreState) (a p : ℕ) : Type 0 where

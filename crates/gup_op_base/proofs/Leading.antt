@@ -5,10 +5,8 @@ use Rattle.gup_frames.specs.Frames.{FramesValue}
 use Rattle.gup_space.specs.Space.{SpaceValue}
 use Rattle.gup_space.specs.Shows.{Change, ShowsFrames, ShowsSpace}
 use Rattle.gup_spec_events.specs.State.{CoreState, core_start}
-use Rattle.gup_spec_events.specs.Event.{CoreEvent, happens, run}
 use Rattle.gup_spec_turns.specs.CoreTurn.{CoreTurn}
 use Rattle.gup_op_base.specs.Turns.{Leads, IsTurnOf}
-use Rattle.gup_spec_events.proofs.Runs.{run_behind}
 
 abbrev pub ch : (F F' : FramesValue) (S S' : SpaceValue) → Change
 ch F F' S S' = record { old_frames = F; new_frames = F'; old_space = S; new_space = S' }

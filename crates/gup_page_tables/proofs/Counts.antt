@@ -1,9 +1,6 @@
 -- How many tables a process has and how many are free, of all that there are.
-use Rattle.std.proofs.Common.{◌≡◌, ℕ, zero, suc, ◌+◌, ◌<◌, ◌≤◌, ◌==◌, Bool, true, false, if◌then◌else◌, List, [], ◌∷◌, length, None, refl, ◌∙◌, arith}
-use Rattle.std.proofs.lemmas.Bool.Decides.{nat_tests}
-use Rattle.gup_plain.specs.Put.{put, lowest}
-use Rattle.gup_plain.proofs.Sums.{passing, none_passing, one_more_passing, same_passing}
-use Rattle.gup_bits.proofs.Lowest.{lowest_absent}
+use Rattle.std.proofs.Common.{◌≡◌, ℕ, zero, suc, ◌+◌, ◌<◌, ◌≤◌, Bool, true, false, if◌then◌else◌, List, [], ◌∷◌, length, refl, arith}
+use Rattle.gup_plain.proofs.Sums.{passing, none_passing, one_more_passing}
 use Rattle.gup_page_tables.proofs.Reclaimed.{among_first, among_rest}
 use Rattle.gup_spec_tables.specs.Tables.{is_among, AreApart}
 

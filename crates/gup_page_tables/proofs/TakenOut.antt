@@ -1,8 +1,8 @@
 -- A table is taken out of the tree, and waits.
-use Rattle.std.proofs.Common.{◌≡◌, ◌≢◌, ℕ, ◌+◌, ◌<◌, ◌==◌, ◌||◌, nat_lt, Bool, true, false, cond, List, [], ◌∷◌, ◌++◌, length, length-append, Option, Some, None, is_some, refl, ap, sym, ◌∙◌, ⊎_elim, arith}
+use Rattle.std.proofs.Common.{◌≡◌, ◌≢◌, ℕ, ◌<◌, ◌==◌, ◌||◌, Bool, true, false, [], ◌∷◌, length, length-append, Some, None, is_some, refl, ap, sym, ◌∙◌, ⊎_elim, arith}
 use Rattle.std.proofs.lemmas.Bool.{cases_eq}
 use Rattle.std.proofs.lemmas.Bool.Decides.{nat_tests}
-use Rattle.gup_spec_tables.specs.Tables.{table_numbers, placed_tables, TreeValue, table_at, on_path, lacks, is_empty, if_empty, detachable, is_among, AreApart}
+use Rattle.gup_spec_tables.specs.Tables.{table_numbers, placed_tables, detachable, is_among}
 use Rattle.gup_spec_tables.proofs.Among.{among_behind, apart_behind}
 use Rattle.gup_tables.proofs.Detachable.{stands}
 use Rattle.gup_page_tables.specs.PageTables.{TablesValue, has_table, retires}

@@ -1,5 +1,5 @@
 -- What is true of the page tables of a process.
-use Rattle.std.specs.Prelude.{◌≡◌, ℕ, ◌+◌, ◌≤◌, true, false, List, [], ◌∷◌, length, None}
+use Rattle.std.specs.Prelude.{◌≡◌, ℕ, ◌+◌, ◌≤◌, true, length, None}
 use Rattle.gup_page_tables.specs.PageTables.{TablesValue}
 use Rattle.gup_spec_tables.specs.Tables.{is_among, AreApart}
 

@@ -1,5 +1,5 @@
 -- The page tables of one process, and what becomes of them and of the pool.
-use Rattle.std.specs.Prelude.{◌≡◌, ℕ, ◌<◌, ◌≤◌, ◌==◌, ◌||◌, Bool, true, false, is_some, if◌then◌else◌, List, [], ◌∷◌, Option, None, Some, zero, suc}
+use Rattle.std.specs.Prelude.{◌≡◌, ℕ, ◌<◌, ◌≤◌, ◌==◌, ◌||◌, Bool, true, false, is_some, if◌then◌else◌, List, [], Option, None, Some, zero, suc}
 use Rattle.gup_limbo.specs.Limbo.{LimboValue, no_limbo, with_retired}
 use Rattle.gup_plain.specs.Put.{lowest}
 use Rattle.gup_tables.specs.Pool.{PoolValue, with_free}

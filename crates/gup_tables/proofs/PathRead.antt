@@ -1,12 +1,10 @@
 -- The words on a page's path, from the root on, and that each table stands below a root.
-use Rattle.std.proofs.Common.{add-zero, ◌≡◌, ◌≢◌, ℕ, zero, suc, ◌+◌, ◌-◌, ◌*◌, ◌/◌, ◌%◌, ◌^◌, ◌<◌, ◌≤◌, ◌==◌, true, false, Option, Some, None, IsSome, IfSome, refl, ap, sym, ◌∙◌, ⊎_elim, arith}
-use Rattle.std.proofs.lemmas.Bool.{cases_eq}
+use Rattle.std.proofs.Common.{add-zero, ◌≡◌, ℕ, zero, suc, ◌+◌, ◌-◌, ◌/◌, ◌%◌, ◌^◌, ◌<◌, ◌==◌, false, Option, Some, None, IsSome, IfSome, refl, ap, sym, ◌∙◌, arith}
 use Rattle.std.proofs.lemmas.Bool.Decides.{nat_tests}
 use Rattle.gup_base.specs.Packing.{pack_of}
-use Rattle.gup_base.specs.declared.entry.Entry.{Entry}
 use Rattle.gup_spec_tables.specs.declared.place.Place.{Place}
 use Rattle.gup_tables.specs.Kept.{IsTree}
-use Rattle.gup_spec_tables.specs.Tables.{TreeValue, table_at, on_path, above, link_to, word_of, word_here, read_next, read_on}
+use Rattle.gup_spec_tables.specs.Tables.{table_at, on_path, above, link_to, word_of, read_next, read_on}
 use Rattle.gup_tables.specs.Tree.{entry_at, tree_by}
 use Rattle.gup_tables.proofs.Lacks.{none_lower}
 use Rattle.gup_tables.proofs.Paths.{path_root, path_under}

@@ -1,9 +1,9 @@
 -- There are as many rows as tables that have one.
-use Rattle.std.proofs.Common.{◌≡◌, ◌≢◌, ℕ, zero, suc, ◌+◌, ◌<◌, ◌≤◌, ◌==◌, ◌&&◌, nat_lt, Bool, true, false, length, get_or, Option, Some, None, is_some, cond, refl, ap, sym, ◌∙◌, ⊎_elim, arith}
+use Rattle.std.proofs.Common.{◌≡◌, ℕ, zero, suc, ◌<◌, ◌≤◌, ◌==◌, ◌&&◌, nat_lt, Bool, true, false, length, get_or, is_some, refl, sym, ◌∙◌, arith}
 use Rattle.std.proofs.lemmas.Bool.Decides.{nat_tests}
 use Rattle.gup_plain.proofs.Sums.{passing, none_passing, one_more_passing, same_passing}
 use Rattle.gup_spec_tables.specs.Tables.{table_numbers, placed_tables}
-use Rattle.gup_tables.specs.Rows.{RowLists, IsKept, is_row, row_of, place_at, place_in}
+use Rattle.gup_tables.specs.Rows.{RowLists, IsKept, is_row, place_in}
 
 module _ (l : RowLists) (for_numbers for_places for_words : ℕ) (kept : IsKept l for_numbers for_places for_words) where
   -- has the table one of the first n rows?
