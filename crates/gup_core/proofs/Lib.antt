@@ -22,3 +22,4 @@ pub mod Emptied
 pub mod Images
 pub mod Sized
 pub mod Journals
+pub mod Tabled

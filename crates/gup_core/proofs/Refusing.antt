@@ -16,7 +16,7 @@ use Rattle.gup_spec_events.specs.State.{CoreState, Job, idle, forking, ForkStep,
 use Rattle.gup_spec_events.specs.Event.{CoreEvent, fail_unborn, run}
 use Rattle.gup_law_base.specs.Sound.{IsSound, forking_of}
 use Rattle.gup_spec_turns.specs.CoreTurn.{CoreTurn}
-use Rattle.gup_spec_turns.specs.Turn.{op_turn, failed_turn, turn_at, turn_of}
+use Rattle.gup_spec_turns.specs.Turn.{op_turn, failed_turn, turn_at, own_turn, turn_of}
 use Rattle.gup_spec_turns.specs.Waits.{waits_born}
 use Rattle.gup_spec_turns.specs.JobPlace.{StandsFork, place_in}
 use Rattle.gup_op_base.specs.declared.jobs.JobPlace.{JobPlace}
@@ -28,13 +28,15 @@ use Rattle.gup_op_waits.specs.declared.parts.Parts.{Parts}
 use Rattle.gup_op_waits.specs.Births.{HasFailed}
 use Rattle.gup_op_waits.specs.Doers.{IsProcessOf}
 use Rattle.gup_spec_turns.specs.Emptying.{emptying}
-use Rattle.gup_core.specs.Goes.{HasSlots, EndsAt, all_view}
+use Rattle.gup_core.specs.Goes.{ShowsAll, HasSlots, EndsAt, all_view, StandsFree}
 use Rattle.gup_core.proofs.Emptied.{leads_emptied}
 use Rattle.gup_op_waits.specs.Parts.{IsBirth, ShowsSpaces, ShowsBirths, ShowsParts}
 use Rattle.gup_core.proofs.Owning.{Pins, pins_of}
 use Rattle.gup_core.proofs.Scripts.{process_of_doer}
 use Rattle.gup_core.proofs.Turning.{IsTurnAmong, IsTurnBy, there, pins_shown, taken_shown, stores_shown}
 use Rattle.gup_op_waits.proofs.Waits.{born_and_free}
+use Rattle.gup_law_turns.proofs.TurnAsOwn.{lost_own}
+use Rattle.gup_core.proofs.Tabled.{with_tables}
 
 -- ---- which processes have failed
 
@@ -66,16 +68,20 @@ pub of_born : (old new : Parts) (a : ℕ) (proc : Option ℕ) (far : ℕ) (op : 
     → (HasFailed old.births.items proc → ⊥) → IfSome proc (λ p. p < length old.births.items)
     → ((p slots : ℕ) → IfSome proc (λ q. q ≡ p) → HasSlots old a slots → IsTurnAmong old new a p slots far op place whats next)
     → IsTurnBy old new a proc far op place whats next
-of_born old new a proc far op place next whats unfailed within turn who k rest left own of_who slots far_is s shown stands =
-    let refused_so : CoreTurn = failed_turn who.actor who.proc op in
-    let other = birth_unfailed old.births.items proc who s unfailed within of_who shown.parts.births in
-    let is_born : birth_for s.birth who ≡ born = (born_and_free (birth_for s.birth who) who.proc (waits_born s who.actor who.proc k op) other stands.free).0 in
-    let is : turn_of s who k op ≡ emptying s who.actor (op_turn s a who.proc who.slots k op) =
-    ap (λ (b : CoreBirth). emptying s who.actor (turn_at b refused_so (op_turn s who.actor who.proc who.slots k op))) is_born
-    ∙ ap (λ (b : ℕ). emptying s who.actor (op_turn s b who.proc who.slots k op)) own in
-    leads_alike is
-    (leads_emptied a who.actor op (all_view new next rest left) s (op_turn s a who.proc who.slots k op) whats
-    (turn who.proc who.slots (process_of_doer who proc of_who) slots k rest left far_is s shown stands.at))
+of_born old new a proc far op place next whats unfailed within turn who k rest left own of_who slots far_is =
+    with_tables a who k op (all_view old place rest left) (all_view new next rest left) whats own_leads
+  where
+    own_leads : IsTurnOf (ShowsAll a op) (StandsFree a who k op) (all_view old place rest left) (all_view new next rest left) (λ s. own_turn s who k op) whats
+    own_leads s shown stands =
+        let refused_so : CoreTurn = failed_turn who.actor who.proc op in
+        let other = birth_unfailed old.births.items proc who s unfailed within of_who shown.parts.births in
+        let is_born : birth_for s.birth who ≡ born = (born_and_free (birth_for s.birth who) who.proc (waits_born s who.actor who.proc k op) other stands.free).0 in
+        let is : own_turn s who k op ≡ emptying s who.actor (op_turn s a who.proc who.slots k op) =
+        ap (λ (b : CoreBirth). emptying s who.actor (turn_at b refused_so (op_turn s who.actor who.proc who.slots k op))) is_born
+        ∙ ap (λ (b : ℕ). emptying s who.actor (op_turn s b who.proc who.slots k op)) own in
+        leads_alike is
+        (leads_emptied a who.actor op (all_view new next rest left) s (op_turn s a who.proc who.slots k op) whats
+        (turn who.proc who.slots (process_of_doer who proc of_who) slots k rest left far_is s shown stands.at))
 
 -- ---- a refusal
 
@@ -168,7 +174,7 @@ refused old new a proc far op place whats has frames spaces handles taken stores
     let t : CoreTurn = failed_turn who.actor p op in
     let made : IsRefusal who.actor p op t.events = refusal who.actor p op in
     let has_so : birth_for s.birth who ≡ failed = birth_failed old.births.items proc who s has of_who shown.parts.births in
-    let is : turn_of s who k op ≡ emptying s who.actor t = ap (λ (b : CoreBirth). emptying s who.actor (turn_at b t (op_turn s who.actor p who.slots k op))) has_so in
+    let is : turn_of s who k op ≡ emptying s who.actor t = lost_own s who k op has_so ∙ ap (λ (b : CoreBirth). emptying s who.actor (turn_at b t (op_turn s who.actor p who.slots k op))) has_so in
     let unmapped : (child : ℕ) → op ≡ Fork child → (g : ℕ) → s.right child g ≡ None =
     λ child same. no_maps s a p child (s.job a) (s.prepared a) stands.sound (stands.at.fork child same) refl (failed_process old.births.items proc who s has of_who shown.parts.births) in
     let led : Leads ShowsBirths new.births.items s t whats = turn who.actor p s shown.parts.births tt in

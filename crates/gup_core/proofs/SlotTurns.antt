@@ -19,7 +19,7 @@ use Rattle.gup_spec_turns.specs.Emptying.{has_page, invalidate, left_in, emptyin
 use Rattle.gup_spec_turns.specs.JobPlace.{JobPlace as Place, job_place, place_in, at_word}
 use Rattle.gup_spec_turns.specs.MirrorTurns.{fills, mirror_turn, look_turn}
 use Rattle.gup_spec_turns.specs.PageTurns.{load_fault}
-use Rattle.gup_spec_turns.specs.Turn.{op_turn, failed_turn, turn_at, turn_of}
+use Rattle.gup_spec_turns.specs.Turn.{op_turn, failed_turn, turn_at, own_turn, turn_of}
 use Rattle.gup_spec_turns.specs.Waits.{waits_born, waiting_for}
 use Rattle.gup_law_mirrors.specs.Invalidated.{shared_in, range_from}
 use Rattle.gup_law_mirrors.proofs.InvalidatingTurns.{forked}
@@ -46,13 +46,15 @@ use Rattle.gup_core.proofs.Owning.{AreOwn, are_of, load_fault_own, pins_of, own_
 use Rattle.gup_core.proofs.Refusing.{IsRefusal, nothing, fails_too, refusal, birth_failed, birth_unfailed}
 use Rattle.gup_core.proofs.Turning.{IsTurnWith, there, replaced, births_shown, pins_shown, taken_shown, stores_shown}
 use Rattle.gup_spec_events.proofs.Runs.{run_behind}
+use Rattle.gup_law_turns.proofs.TurnAsOwn.{AsOwn, as_own, idle_own, lost_own}
+use Rattle.gup_core.proofs.Tabled.{all_tabled, mirrors_tabled, with_tabled, with_tables_of}
 
 -- ---- which turn it is
 
--- that of the operation, of a process that hasn't failed, or of none
+-- that of the operation, of a process that hasn't failed, or of none, but for page tables
 pub turn_born : (births : List Birth) (proc : Option ℕ) (who : Doer) (s : CoreState) (k : ℕ) (op : Op) → (HasFailed births proc → ⊥) → IfSome proc (λ p. p < length births)
     → IsProcessOf who proc → ShowsBirths births s → waiting_for s who k op ≡ None
-    → turn_of s who k op ≡ emptying s who.actor (op_turn s who.actor who.proc who.slots k op)
+    → own_turn s who k op ≡ emptying s who.actor (op_turn s who.actor who.proc who.slots k op)
 turn_born births proc who s k op unfailed within of_who shown free =
     let other = birth_unfailed births proc who s unfailed within of_who shown in
     let is_born : birth_for s.birth who ≡ born = (born_and_free (birth_for s.birth who) who.proc (waits_born s who.actor who.proc k op) other free).0 in
@@ -62,7 +64,8 @@ turn_born births proc who s k op unfailed within of_who shown free =
 pub turn_lost : (births : List Birth) (proc : Option ℕ) (who : Doer) (s : CoreState) (k : ℕ) (op : Op) → HasFailed births proc → IsProcessOf who proc → ShowsBirths births s
     → turn_of s who k op ≡ emptying s who.actor (failed_turn who.actor who.proc op)
 turn_lost births proc who s k op has of_who shown =
-    ap (λ (b : CoreBirth). emptying s who.actor (turn_at b (failed_turn who.actor who.proc op) (op_turn s who.actor who.proc who.slots k op)))
+    lost_own s who k op (birth_failed births proc who s has of_who shown)
+    ∙ ap (λ (b : CoreBirth). emptying s who.actor (turn_at b (failed_turn who.actor who.proc op) (op_turn s who.actor who.proc who.slots k op)))
     (birth_failed births proc who s has of_who shown)
 
 -- ---- what is left of slots
@@ -91,28 +94,38 @@ no_mirror_leaves op m apart proc page is = subst (λ (o : Op). IsNoMirror o) (so
     some_op : {o x : Op} → Some o ≡ Some x → o ≡ x
     some_op e = cc
 
-module _ (s : CoreState) (who : Doer) (a k : ℕ) (op : Op) (own : who.actor ≡ a) (is : turn_of s who k op ≡ emptying s who.actor (op_turn s who.actor who.proc who.slots k op)) (apart : IsNoMirror op) (emptied : EmptiesSlots s (Some op) (turn_of s who k op)) where
+module _ (s : CoreState) (who : Doer) (a k : ℕ) (op : Op) (own : who.actor ≡ a) (as_it : AsOwn s who k op) (is : own_turn as_it.state who k op ≡ emptying as_it.state who.actor (op_turn as_it.state who.actor who.proc who.slots k op)) (apart : IsNoMirror op) (emptied : EmptiesSlots s (Some op) (turn_of s who k op)) where
   abbrev behind : CoreState
   behind = run s (turn_of s who k op).events
 
-  pub slots_left : (m : ℕ) → behind.mirrored m ≡ left_in (op_turn s a who.proc who.slots k op).events (s.mirrored m) (s.slot m)
+  -- the state in which the operation's own turn is taken
+  abbrev t : CoreState
+  t = as_it.state
+
+  pub slots_left : (m : ℕ) → behind.mirrored m ≡ left_in (op_turn t a who.proc who.slots k op).events (t.mirrored m) (t.slot m)
   slots_left m =
       emptied.left m (no_mirror_leaves op m apart)
+      ∙ as_it.left (s.mirrored m) (s.slot m)
       ∙ ap (λ (u : CoreTurn). left_in u.events (s.mirrored m) (s.slot m)) is
-      ∙ emptying_stale s who.actor (op_turn s who.actor who.proc who.slots k op) (s.mirrored m) (s.slot m)
-      ∙ ap (λ (b : ℕ). left_in (op_turn s b who.proc who.slots k op).events (s.mirrored m) (s.slot m)) own
+      ∙ emptying_stale t who.actor (op_turn t who.actor who.proc who.slots k op) (s.mirrored m) (s.slot m)
+      ∙ ap (λ (b : ℕ). left_in (op_turn t b who.proc who.slots k op).events (s.mirrored m) (s.slot m)) own
+      ∙ sym (ap (λ (x : CoreState). left_in (op_turn t a who.proc who.slots k op).events (x.mirrored m) (x.slot m)) as_it.before)
 
-  pub slots_noted : (m : ℕ) → behind.slot m ≡ s.slot m
-  slots_noted m = emptied.notes m (no_mirror_leaves op m apart)
+  pub slots_noted : (m : ℕ) → behind.slot m ≡ t.slot m
+  slots_noted m = emptied.notes m (no_mirror_leaves op m apart) ∙ sym (ap (λ (x : CoreState). x.slot m) as_it.before)
 
 -- so it is where those were emptied that the turn is to empty
 pub left_mirrors : (parts : Parts) (a : ℕ) (proc : Option ℕ) (far : ℕ) (op : Op) (job : JobPlace) (old new : MirrorsValue)
     → (HasFailed parts.births.items proc → ⊥) → IfSome proc (λ p. p < length parts.births.items) → IsNoMirror op
     → LeavesSlotsOf parts a proc far job op old new → TakesMirrors parts a proc far op job old new
-left_mirrors parts a proc far op job old new unfailed within apart leaves s who k others left own of_who far_is shown stands emptied =
-    let is = turn_born parts.births.items proc who s k op unfailed within of_who shown.parts.births stands.free.free in
-    leaves s (run s (turn_of s who k op).events) who who.slots k shown.parts stands.slots stands.free.sound of_who far_is shown.job stands.free.at
-    (slots_left s who a k op own is apart emptied) (slots_noted s who a k op own is apart emptied)
+left_mirrors parts a proc far op job old new unfailed within apart leaves s who k others left own of_who far_is shown_s stands_s emptied =
+    let as_it = as_own s who k op in
+    let t : CoreState = as_it.state in
+    let shown = all_tabled s t as_it.before a op (all_view parts job others left) shown_s in
+    let stands = with_tabled s t as_it.before old a who k op stands_s in
+    let is = turn_born parts.births.items proc who t k op unfailed within of_who shown.parts.births stands.free.free in
+    leaves t (run s (turn_of s who k op).events) who who.slots k shown.parts stands.slots stands.free.sound of_who far_is shown.job stands.free.at
+    (slots_left s who a k op own as_it is apart emptied) (slots_noted s who a k op own as_it is apart emptied)
 
 -- a fork that copies a word invalidates no page
 copying_shares_none : (job : Job) (prepared : Option ℕ) (page word to : ℕ) → job_place job prepared ≡ at_word page word to → shared_in job ≡ None
@@ -123,16 +136,20 @@ copying_shares_none job prepared page word to is = refl
 pub copied_mirrors : (parts : Parts) (a : ℕ) (proc : Option ℕ) (far : ℕ) (op : Op) (job : JobPlace) (copy : WordCopy) (mirrors : MirrorsValue)
     → (HasFailed parts.births.items proc → ⊥) → IfSome proc (λ p. p < length parts.births.items) → IsCopyAt parts.births.items proc job op copy
     → TakesMirrors parts a proc far op job mirrors mirrors
-copied_mirrors parts a proc far op job copy mirrors unfailed within copies s who k others left own of_who far_is shown stands emptied =
-    let is = turn_born parts.births.items proc who s k op unfailed within of_who shown.parts.births stands.free.free in
+copied_mirrors parts a proc far op job copy mirrors unfailed within copies s who k others left own of_who far_is shown_s stands_s emptied =
+    let as_it = as_own s who k op in
+    let t : CoreState = as_it.state in
+    let shown = all_tabled s t as_it.before a op (all_view parts job others left) shown_s in
+    let stands = with_tabled s t as_it.before mirrors a who k op stands_s in
+    let is = turn_born parts.births.items proc who t k op unfailed within of_who shown.parts.births stands.free.free in
     let apart : IsNoMirror op = subst (λ (o : Op). IsNoMirror o) (sym copies.is_fork) tt in
-    let at : place_in s a ≡ at_word copy.page copy.word copy.to = sym shown.job ∙ ap place_of copies.stands in
-    let none : shared_in (s.job a) ≡ None = copying_shares_none (s.job a) (s.prepared a) copy.page copy.word copy.to at in
-    none_left mirrors s (run s (turn_of s who k op).events) (op_turn s a who.proc who.slots k op).events stands.slots
-    (slots_left s who a k op own is apart emptied) (slots_noted s who a k op own is apart emptied)
+    let at : place_in t a ≡ at_word copy.page copy.word copy.to = sym shown.job ∙ ap place_of copies.stands in
+    let none : shared_in (t.job a) ≡ None = copying_shares_none (t.job a) (t.prepared a) copy.page copy.word copy.to at in
+    none_left mirrors t (run s (turn_of s who k op).events) (op_turn t a who.proc who.slots k op).events stands.slots
+    (slots_left s who a k op own as_it is apart emptied) (slots_noted s who a k op own as_it is apart emptied)
     (λ m filled is_filled.
-    ap (λ (o : Op). invalidate (op_turn s a who.proc who.slots k o).events filled.proc filled.page) copies.is_fork
-    ∙ forked s a who.proc copy.child (s.job a) filled.proc filled.page (has_entry s mirrors stands.free.sound stands.slots m filled is_filled)
+    ap (λ (o : Op). invalidate (op_turn t a who.proc who.slots k o).events filled.proc filled.page) copies.is_fork
+    ∙ forked t a who.proc copy.child (t.job a) filled.proc filled.page (has_entry t mirrors stands.free.sound stands.slots m filled is_filled)
     ∙ ap (λ (page : Option ℕ). has_page (range_from who.proc 1 page) filled.proc filled.page) none)
 
 -- ---- a mirror
@@ -212,7 +229,7 @@ module _ (old new : Parts) (a : ℕ) (proc : Option ℕ) (p m q page far : ℕ) 
   of_p : (who : Doer) → IsProcessOf who proc → who.proc ≡ p
   of_p who of_who = (subst (λ (o : Option ℕ). IsProcessOf who o) some of_who).1
 
-  turn_is : (s : CoreState) (who : Doer) (k : ℕ) → who.actor ≡ a → IsProcessOf who proc → ShowsBirths old.births.items s → waiting_for s who k op ≡ None → turn_of s who k op ≡ mirror_turn s a p m page (s.entry p page)
+  turn_is : (s : CoreState) (who : Doer) (k : ℕ) → who.actor ≡ a → IsProcessOf who proc → ShowsBirths old.births.items s → waiting_for s who k op ≡ None → own_turn s who k op ≡ mirror_turn s a p m page (s.entry p page)
   turn_is s who k own of_who shown free =
       let bare : CoreTurn = mirror_turn s who.actor who.proc m page (s.entry who.proc page) in
       turn_born old.births.items proc who s k op unfailed within of_who shown free
@@ -230,18 +247,25 @@ module _ (old new : Parts) (a : ℕ) (proc : Option ℕ) (p m q page far : ℕ) 
   new_space = let within_new = by.there in there new.spaces.items p (omega (arith, within_new, by.many))
 
   pub filled : IsTurnWith (mirrors_of was) old new a proc far op place whats place
-  filled who k others left own of_who slots far_is s shown stands =
+  filled who k others left own of_who slots far_is =
+      with_tables_of (mirrors_of was) a who k op (all_view old place others left) (all_view new place others left) whats
+      (λ s shown stands.
       let y = new_space in
       let none : IsUnforked (s.job a) = λ f. ap (λ job. job_place job f) (stands.free.at.idle_job tt) in
       leads_alike (turn_is s who k own of_who shown.parts.births stands.free.free)
       (shown_by old new a p m page op place others left y.0 now whats s by.births by.handles by.taken by.stores y.1 by.unmoved shown none
-      (load_fault s a p page (s.entry p page)) (load_fault_own s a p page (s.entry p page)) (leads s others left shown stands.slots y.0 y.1))
+      (load_fault s a p page (s.entry p page)) (load_fault_own s a p page (s.entry p page)) (leads s others left shown stands.slots y.0 y.1)))
 
   pub filled_mirrors : TakesMirrors old a proc far op place (mirrors_of was) (mirrors_of now)
-  filled_mirrors s who k others left own of_who far_is shown stands emptied =
+  filled_mirrors s who k others left own of_who far_is shown_s stands_s emptied =
+      let as_it = as_own s who k op in
+      let t : CoreState = as_it.state in
+      let shown = all_tabled s t as_it.before a op (all_view old place others left) shown_s in
+      let stands = with_tabled s t as_it.before (mirrors_of was) a who k op stands_s in
       let y = new_space in
-      subst (λ (u : CoreTurn). ShowsMirrors (mirrors_of now) (run s u.events)) (sym (turn_is s who k own of_who shown.parts.births stands.free.free))
-      (leads s others left shown stands.slots y.0 y.1).shown.mirrors
+      mirrors_tabled (run t (own_turn t who k op).events) (run s (turn_of s who k op).events) as_it.after (mirrors_of now)
+      (subst (λ (u : CoreTurn). ShowsMirrors (mirrors_of now) (run t u.events)) (sym (turn_is t who k own of_who shown.parts.births stands.free.free))
+      (leads t others left shown stands.slots y.0 y.1).shown.mirrors)
 
 -- ---- a look
 
@@ -250,7 +274,8 @@ module _ (parts : Parts) (a : ℕ) (proc : Option ℕ) (m word far : ℕ) (place
     (turn : IsTurnOf ShowsLooking Anywhere (looking_view parts.frames mirrors) (looking_view parts.frames mirrors) (λ s. look_turn s a m word (s.mirrored m)) whats) where
   look_is : (s : CoreState) (who : Doer) (k : ℕ) → who.actor ≡ a → IsProcessOf who proc → ShowsBirths parts.births.items s → waiting_for s who k (Look m word) ≡ None → turn_of s who k (Look m word) ≡ look_turn s a m word (s.mirrored m)
   look_is s who k own of_who shown free =
-      turn_born parts.births.items proc who s k (Look m word) unfailed within of_who shown free
+      idle_own s who k (Look m word) tt
+      ∙ turn_born parts.births.items proc who s k (Look m word) unfailed within of_who shown free
       ∙ none_emptying s who.actor (look_turn s who.actor m word (s.mirrored m)) (λ q g. look_none s who.actor m word q g (s.mirrored m))
       ∙ ap (λ (b : ℕ). look_turn s b m word (s.mirrored m)) own
 

@@ -46,6 +46,7 @@ use Rattle.gup_op_waits.specs.Seats.{IsSeat, far_behind, seat_behind}
 use Rattle.gup_core.proofs.Notes.{NoTwo, turn_two}
 use Rattle.gup_core.proofs.Resting.{Stand, standing, reached_behind, op_there, stands_at}
 use Rattle.gup_core.proofs.Turning.{IsTurnWith, differ, replaced}
+use Rattle.gup_law_turns.proofs.TurnAsOwn.{as_own}
 
 -- What the machine is after a turn t of an actor shows the state after it.
 shows_behind : (m : MachineValue) (parts : Parts) (mirrors : List (Option Filled)) (seats : List Seat) (turns : ℕ) (r : RunState) (a : ℕ) (t : CoreTurn)
@@ -297,7 +298,7 @@ goes m a proc seat next op parts mirrors seats turns said job stand empties rest
     let emptied : EmptiesSlots r.core (Some op) t =
     subst (EmptiesSlots r.core (Some op)) is (subst (λ (o : Option Op). EmptiesSlots r.core o (core_turn_in m.script r a)) op_is (empties_at m r a empties rest.valid h)) in
     let seated_so : slice_get seats a ≡ Some (seat_behind seat op (is_some said.answer) job) = seated ∙ ap (λ (s : Seat). Some s) next_is in
-    let two : NoTwo (whats_of said) = subst (λ (ws : List What). NoTwo ws) led.says (turn_two (birth_for r.core.birth who) r.core a who.proc who.slots far op) in
+    let two : NoTwo (whats_of said) = let own = as_own r.core who far op in subst (λ (ws : List What). NoTwo ws) (sym own.whats ∙ led.says) (turn_two (birth_for own.state.birth who) own.state a who.proc who.slots far op) in
     let reached : IsReached m.script (run_after m.script r a) = reached_behind m.script r a h.reached in
     let stands_after : IsStanding m.script (run_after m.script r a) = subst (λ (x : RunState). IsStanding m.script x) (sym reached.1) (stand m.script reached.0 rest.valid) in
     let rests : (place_behind (r.places a) t.whats).far ≡ 0 → (run r.core t.events).job a ≡ idle =

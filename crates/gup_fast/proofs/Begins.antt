@@ -17,11 +17,6 @@ change F F' S S' = record { old_frames = F; new_frames = F'; old_space = S; new_
 pub own : {X : Type 0} (a : ℕ) (x : X) (f : ℕ → X) → put a x f a ≡ x
 own a x f = grind (arith, nat_tests)
 
--- the process, where another number of walks is known to run in it
-pub with_walks : (p : ℕ) (S : SpaceValue) (n : ℕ) (s : CoreState) → s.walks p ≡ n → ShowsSpace p S s → ShowsSpace p (record S { walks = n }) s
-with_walks p S n s walks h =
-    record { right = h.right; pages = h.pages; entry = h.entry; sequence = h.sequence; has_pinned = h.has_pinned; structure = h.structure; table = h.table; walks = walks }
-
 -- a walk that has not begun and has read no sequence enters; the process has pinned, and one walk more runs in it
 pub begins : (F : FramesValue) (S S' : SpaceValue) (w w' : WalkValue) → w.stage ≡ unbegun → w.sequence ≡ 0 → w' ≡ at_stage (at entered) w → S' ≡ record S { has_pinned = true } → AreWalkEvents (change F F S S') w w' (λ s a p. flags a p w)
 begins F S S' w w' fresh none walk space s a p old_frames old_space old_walk =

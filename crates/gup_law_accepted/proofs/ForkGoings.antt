@@ -17,12 +17,14 @@ use Rattle.gup_spec_turns.specs.CoreTurn.{free_frame}
 use Rattle.gup_spec_turns.specs.ForkTurns.{first_behind, next_page, page_turn, next_turn, frame_turn, copy_turn, copying_turn, fork_turn}
 use Rattle.gup_spec_turns.specs.JobPlace.{IsForking, HasCounted}
 use Rattle.gup_spec_turns.specs.Run.{RunState, op_in, waiting_with, core_turn_by, core_turn_in}
-use Rattle.gup_spec_turns.specs.Turn.{failed_turn, turn_at, op_turn}
+use Rattle.gup_spec_turns.specs.Turn.{failed_turn, turn_at, op_turn, own_turn}
 use Rattle.gup_law_base.specs.Sound.{IsSound}
 use Rattle.gup_law_turns.proofs.PageSearches.{IsLowest, lowest_some}
 use Rattle.gup_law_turns.proofs.Puts.{some_same, none_of}
 use Rattle.gup_law_turns.proofs.StandingStates.{Stands}
 use Rattle.gup_law_turns.proofs.TurnShapes.{FitsAt, FitsFork, FitsOp}
+use Rattle.gup_law_turns.proofs.TabledTurns.{fits_tabled, sound_tabled}
+use Rattle.gup_law_turns.proofs.TurnAsOwn.{as_own}
 
 -- the page behind the last that it has come to, by its job
 abbrev pub StepGoes : List ℕ → ForkStep → (next : ℕ) → Type 0
@@ -93,14 +95,25 @@ module _ (s : CoreState) (sound : IsSound s) (a p child : ℕ) where
   comes_by place next page e (forking q c done step) fits goes tells comes = absurd fits.1
   comes_by place next page e job fits goes tells comes = absurd fits
 
--- a turn of its actor
-turn_comes : (s : CoreState) → IsSound s → (who : Doer) (place : Place) (child page : ℕ) (e : PlainEvent) (next : ℕ) (waiting : Option Waiting) → FitsOp s who (Fork child) place → ForkGoes (s.job who.actor) next → (core_turn_by s who place.far (Some (Fork child)) waiting).whats ≡ Event e ∷ [] → page_at e ≡ Some page → ArePassed (λ g. is_none (s.right who.proc g)) next page
-turn_comes s sound who place child page e next (Some w) fits goes tells comes = absurd (cc tells)
-turn_comes s sound who place child page e next None fits goes tells comes = by_birth (birth_for s.birth who) tells
+-- the turn of its actor, but for page tables
+own_comes : (s : CoreState) → IsSound s → (who : Doer) (place : Place) (child page : ℕ) (e : PlainEvent) (next : ℕ) → FitsOp s who (Fork child) place → ForkGoes (s.job who.actor) next → (own_turn s who place.far (Fork child)).whats ≡ Event e ∷ [] → page_at e ≡ Some page → ArePassed (λ g. is_none (s.right who.proc g)) next page
+own_comes s sound who place child page e next fits goes tells comes = by_birth (birth_for s.birth who) tells
   where
     by_birth : (birth : Birth) → (turn_at birth (failed_turn who.actor who.proc (Fork child)) (op_turn s who.actor who.proc who.slots place.far (Fork child))).whats ≡ Event e ∷ [] → ArePassed (λ g. is_none (s.right who.proc g)) next page
     by_birth failed told = absurd (cc told)
     by_birth birth told = comes_by s sound who.actor who.proc child place next page e (s.job who.actor) fits.1 goes told comes
+
+-- a turn of its actor
+turn_comes : (s : CoreState) → IsSound s → (who : Doer) (place : Place) (child page : ℕ) (e : PlainEvent) (next : ℕ) (waiting : Option Waiting) → FitsOp s who (Fork child) place → ForkGoes (s.job who.actor) next → (core_turn_by s who place.far (Some (Fork child)) waiting).whats ≡ Event e ∷ [] → page_at e ≡ Some page → ArePassed (λ g. is_none (s.right who.proc g)) next page
+turn_comes s sound who place child page e next (Some w) fits goes tells comes = absurd (cc tells)
+turn_comes s sound who place child page e next None fits goes tells comes =
+    let own = as_own s who place.far (Fork child) in
+    let t : CoreState = own.state in
+    subst (λ (x : CoreState). ArePassed (λ g. is_none (x.right who.proc g)) next page) own.before
+    (own_comes t (sound_tabled s t own.before sound) who place child page e next
+    (fits_tabled s t own.before who (Some (Fork child)) place fits)
+    (subst (λ (x : CoreState). ForkGoes (x.job who.actor) next) (sym own.before) goes)
+    (sym own.whats ∙ tells) comes)
 
 pub fork_comes_next : (script : ScriptValue) → IsScript script → (r : RunState) → Stands script r → (a child page : ℕ) (e : PlainEvent) (next : ℕ) → op_in script r a ≡ Some (Fork child) → ForkGoes (r.core.job a) next → (core_turn_in script r a).whats ≡ Event e ∷ [] → page_at e ≡ Some page → ArePassed (λ g. is_none ((plain_of r.core).right (process_of script a) g)) next page
 fork_comes_next script valid r h a child page e next is goes tells comes =

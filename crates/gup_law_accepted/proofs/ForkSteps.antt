@@ -20,7 +20,7 @@ use Rattle.gup_spec_turns.specs.CoreTurn.{CoreTurn, free_frame}
 use Rattle.gup_spec_turns.specs.Emptying.{empties, emptying, is_stale}
 use Rattle.gup_spec_turns.specs.ForkTurns.{first_behind, next_page, page_turn, next_turn, share_turn, frame_turn, copy_turn, copying_turn, fork_turn}
 use Rattle.gup_spec_turns.specs.Run.{RunState, op_in, waiting_with, core_turn_by, core_turn_in, run_after}
-use Rattle.gup_spec_turns.specs.Turn.{failed_turn, turn_at, op_turn}
+use Rattle.gup_spec_turns.specs.Turn.{failed_turn, turn_at, op_turn, own_turn, turn_of}
 use Rattle.gup_law_turns.proofs.ActorPlaces.{goes_on, is_over, IsBehindTurn, stays_there, goes_by, turn_behind}
 use Rattle.gup_law_turns.proofs.EventLists.{Law}
 use Rattle.gup_law_turns.proofs.Puts.{put_same}
@@ -30,6 +30,8 @@ use Rattle.gup_law_turns.proofs.TurnShapes.{FitsAt, FitsFork, FitsOp}
 use Rattle.gup_law_turns.proofs.TurnSteps.{taken}
 use Rattle.gup_law_accepted.proofs.TurnPasses.{own_behind}
 use Rattle.gup_law_accepted.proofs.ForkGoings.{StepGoes, ForkGoes}
+use Rattle.gup_law_turns.proofs.TabledTurns.{fits_tabled}
+use Rattle.gup_law_turns.proofs.TurnAsOwn.{as_own}
 
 -- at the first turn of an operation it has come to its first page
 abbrev pub AtStart : List Op → Place → Going → Type 0
@@ -118,14 +120,29 @@ module _ (ops : List Op) (p : ℕ) (s : CoreState) (who : Doer) (child : ℕ) (p
   fork_on (forking q c done step) is fits goes = absurd fits.1
   fork_on job is fits goes = absurd fits
 
-  -- a turn of its actor
-  turn_on : (waiting : Option Waiting) → FitsOp s who (Fork child) place → ForkGoes (s.job who.actor) g.next → 0 < (place_behind place (core_turn_by s who place.far (Some (Fork child)) waiting).whats).far → ForkGoes ((run s (core_turn_by s who place.far (Some (Fork child)) waiting).events).job who.actor) (own_behind ops p (plain_of s) place g (core_turn_by s who place.far (Some (Fork child)) waiting).whats).next
-  turn_on (Some w) fits goes = λ far. goes
-  turn_on None fits goes = by_birth (birth_for s.birth who)
+  -- the turn of its actor, but for page tables
+  own_turn_on : FitsOp s who (Fork child) place → ForkGoes (s.job who.actor) g.next → 0 < (place_behind place (own_turn s who place.far (Fork child)).whats).far → ForkGoes ((run s (own_turn s who place.far (Fork child)).events).job who.actor) (own_behind ops p (plain_of s) place g (own_turn s who place.far (Fork child)).whats).next
+  own_turn_on fits goes = by_birth (birth_for s.birth who)
     where
       by_birth : (birth : Birth) → GoesOn (turn_at birth (failed_turn who.actor who.proc (Fork child)) (op_turn s who.actor who.proc who.slots place.far (Fork child)))
       by_birth failed = λ far. absurd (omega (arith, far))
       by_birth birth = fork_on (s.job who.actor) refl fits.1 goes
+
+-- a turn of its actor
+turn_on : (ops : List Op) (p : ℕ) (s : CoreState) (who : Doer) (child : ℕ) (place : Place) (g : Going) (waiting : Option Waiting) → FitsOp s who (Fork child) place → ForkGoes (s.job who.actor) g.next → 0 < (place_behind place (core_turn_by s who place.far (Some (Fork child)) waiting).whats).far → ForkGoes ((run s (core_turn_by s who place.far (Some (Fork child)) waiting).events).job who.actor) (own_behind ops p (plain_of s) place g (core_turn_by s who place.far (Some (Fork child)) waiting).whats).next
+turn_on ops p s who child place g (Some w) fits goes far = goes
+turn_on ops p s who child place g None fits goes far =
+    let own = as_own s who place.far (Fork child) in
+    let t : CoreState = own.state in
+    let whats : List What = (own_turn t who place.far (Fork child)).whats in
+    let on = own_turn_on ops p t who child place g (fits_tabled s t own.before who (Some (Fork child)) place fits)
+    (subst (λ (x : CoreState). ForkGoes (x.job who.actor) g.next) (sym own.before) goes)
+    (subst (λ (ws : List What). 0 < (place_behind place ws).far) own.whats far) in
+    let plain : ForkGoes ((run t (own_turn t who place.far (Fork child)).events).job who.actor) (own_behind ops p (plain_of s) place g whats).next =
+    subst (λ (x : CoreState). ForkGoes ((run t (own_turn t who place.far (Fork child)).events).job who.actor) (own_behind ops p (plain_of x) place g whats).next) own.before on in
+    let ended : ForkGoes ((run s (turn_of s who place.far (Fork child)).events).job who.actor) (own_behind ops p (plain_of s) place g whats).next =
+    subst (λ (x : CoreState). ForkGoes (x.job who.actor) (own_behind ops p (plain_of s) place g whats).next) (sym own.after) plain in
+    subst (λ (ws : List What). ForkGoes ((run s (turn_of s who place.far (Fork child)).events).job who.actor) (own_behind ops p (plain_of s) place g ws).next) (sym own.whats) ended
 
 -- whoever forks and is in the middle of it after a turn, was at the same fork before
 same_fork : {t : CoreState} {who : Doer} {op : Option Op} {place : Place} {whats : List What} → IsBehindTurn t who op place whats → 0 < (place_behind place whats).far → (place_behind place whats).answered ≡ place.answered

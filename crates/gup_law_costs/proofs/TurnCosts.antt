@@ -11,7 +11,7 @@ use Rattle.gup_plain.specs.declared.note.Waiting.{Waiting}
 use Rattle.gup_script.specs.declared.op.Op.{Op}
 use Rattle.gup_script.specs.declared.op.Op.TheVariants.{Map, Unmap, Discard, Pin, Unpin, Transfer, Move, Fork}
 use Rattle.gup_script.specs.Script.{ScriptValue, Actor}
-use Rattle.gup_script.specs.Valid.{IsScript, IsOp, IsOfDevice}
+use Rattle.gup_script.specs.Valid.{IsScript, IsOp}
 use Rattle.gup_spec_events.specs.State.{CoreState, Job, idle, forking, between, counted, copying}
 use Rattle.gup_spec_events.specs.Event.{CoreEvent, run}
 use Rattle.gup_law_base.specs.Sound.{Forking, forking_of}
@@ -23,7 +23,7 @@ use Rattle.gup_law_turns.specs.Standing.{IsStanding, StandsHandle, given_back, b
 use Rattle.gup_spec_turns.specs.Run.{RunState, run_start, run_after, op_in, waiting_in, waiting_with, core_turn_by, core_turn_in, is_ready, can_go}
 use Rattle.gup_spec_turns.specs.Waits.{waits_born}
 use Rattle.gup_spec_turns.specs.CoreTurn.{CoreTurn}
-use Rattle.gup_spec_turns.specs.Turn.{turn_at, failed_turn, op_turn, turn_of}
+use Rattle.gup_spec_turns.specs.Turn.{turn_at, failed_turn, op_turn, turn_of, own_turn}
 use Rattle.gup_spec_turns.proofs.Unseen.{emptying_unseen}
 use Rattle.gup_law_costs.proofs.PageBounds.{TakesCost}
 use Rattle.gup_law_costs.proofs.ForkBounds.{IsSpent, StandsAt, place_by}
@@ -36,6 +36,7 @@ use Rattle.gup_law_turns.proofs.TurnSteps.{of_no_device}
 use Rattle.gup_law_turns.proofs.TurnShapes.{HasLeft, IsOfProcess, child_of}
 use Rattle.gup_law_turns.proofs.ShownTurns.{idle_place, waits_no_birth}
 use Rattle.gup_law_turns.proofs.Sums.{sum_at, sum_same, sum_zero, sum_of_list}
+use Rattle.gup_law_turns.proofs.TurnAsOwn.{as_own}
 
 -- what an actor has left
 
@@ -208,12 +209,17 @@ kept_at : (s : CoreState) (who : Doer) (far : ℕ) (op : Op) (b : Birth) → (Is
 kept_at s who far op failed none = kept_failed s who.actor who.proc op none
 kept_at s who far op b none = kept_rights s who.actor who.proc who.slots far op none
 
--- and whatever slots it empties first
-kept_of : (s : CoreState) (who : Doer) (far : ℕ) (op : Op) → (IsOfProcess op → ⊥) → (run s (turn_of s who far op).events).right ≡ s.right
-kept_of s who far op none =
+-- and whatever slots it empties first, and whatever tables it changes
+kept_own : (s : CoreState) (who : Doer) (far : ℕ) (op : Op) → (IsOfProcess op → ⊥) → (run s (own_turn s who far op).events).right ≡ s.right
+kept_own s who far op none =
     let b : Birth = birth_for s.birth who in
     let turn : CoreTurn = turn_at b (failed_turn who.actor who.proc op) (op_turn s who.actor who.proc who.slots far op) in
     ap (λ (t : CoreState). t.right) (emptying_unseen s who.actor turn) ∙ kept_at s who far op b none
+
+kept_of : (s : CoreState) (who : Doer) (far : ℕ) (op : Op) → (IsOfProcess op → ⊥) → (run s (turn_of s who far op).events).right ≡ s.right
+kept_of s who far op none =
+    let own = as_own s who far op in
+    ap (λ (t : CoreState). t.right) own.after ∙ kept_own own.state who far op none ∙ ap (λ (t : CoreState). t.right) own.before
 
 kept_turn : (script : ScriptValue) (r : RunState) (a : ℕ) (op : Op) → op_in script r a ≡ Some op → waiting_in script r a ≡ None → (IsOfProcess op → ⊥) → (run r.core (core_turn_in script r a).events).right ≡ r.core.right
 kept_turn script r a op is free none =

@@ -1,5 +1,5 @@
 -- A turn answers that there is no frame, or ends a short pin so, exactly where it needs one and finds none free.
-use Rattle.std.proofs.Common.{◌≡◌, ℕ, ◌+◌, ◌<◌, ◌==◌, nat_lt, Bool, true, false, if◌then◌else◌, IsTrue, List, [], ◌∷◌, ◌++◌, length, slice_index_or, Option, Some, None, IsSome, ◌⊎◌, refl, sym, ap, subst, inl, inr, ◌&&◌, zero, suc, arith}
+use Rattle.std.proofs.Common.{◌≡◌, ℕ, ◌+◌, ◌<◌, ◌==◌, nat_lt, Bool, true, false, if◌then◌else◌, IsTrue, List, [], ◌∷◌, ◌++◌, length, slice_index_or, Option, Some, None, IsSome, ◌⊎◌, refl, sym, ap, ◌∙◌, subst, inl, inr, ◌&&◌, zero, suc, arith}
 use Rattle.std.specs.Prelude.{Ok, Err}
 use Rattle.std.proofs.lemmas.Bool.Decides.{nat_tests}
 use Rattle.gup_base.specs.Parts.{Part, words_of, word_at}
@@ -29,8 +29,8 @@ use Rattle.gup_spec_events.specs.Fault.{Fault, fills, unshares, unshare_fault, r
 use Rattle.gup_spec_journal.specs.Denial.{has_reference}
 use Rattle.gup_spec_journal.specs.Follows.{refuses}
 use Rattle.gup_spec_journal.specs.Place.{Doer, doer_of, birth_for}
-use Rattle.gup_spec_turns.specs.Cause.{AreHeld, allowed_of, MayBeShared, NeedsOwn, NeedsWritable, NeedsForPin, NeedsAtPage, NeedsIfSlow, NeedsFor, NeedsFrame, LacksFrame, LacksExactly}
-use Rattle.gup_spec_turns.specs.JobPlace.{JobPlace, copying_place, job_place, unbegun, from_page, at_page, wants_frame, at_word, moving_page, in_walk}
+use Rattle.gup_spec_turns.specs.Cause.{AreHeld, allowed_of, MayBeShared, NeedsOwn, NeedsWritable, NeedsForLoad, NeedsForStore, NeedsForPin, NeedsAtPage, NeedsIfSlow, NeedsFor, NeedsFrame, LacksFrame, LacksExactly}
+use Rattle.gup_spec_turns.specs.JobPlace.{JobPlace, copying_place, job_place, place_in, unbegun, from_page, at_page, wants_frame, at_word, moving_page, in_walk}
 use Rattle.gup_spec_turns.specs.Run.{RunState, op_in, waiting_in, waiting_with, core_turn_by, turn_in}
 use Rattle.gup_spec_turns.specs.CoreTurn.{CoreTurn, answers_with, free_in, free_frame, zones_of, entry_in, allows_store, silent_or_done, after_fault}
 use Rattle.gup_spec_turns.specs.ForkTurns.{first_behind, next_page, page_turn, next_turn, frame_turn, copy_turn, copying_turn, fork_turn}
@@ -38,7 +38,7 @@ use Rattle.gup_spec_turns.specs.MoveTurns.{place_turn, counted_turn, move_turn}
 use Rattle.gup_spec_turns.specs.Waits.{waits_born}
 use Rattle.gup_spec_turns.proofs.TurnParts.{loads_after, stores_after, store_fault_by, map_turn_by, unmap_turn_by, protect_turn_by, discard_turn_by, unpin_turn_by, give_turn_by, gets_after, put_turn_by, transfer_turn_by, clear_turn_by}
 use Rattle.gup_spec_turns.specs.PageTurns.{load_turn, store_turn, lowest_page, exit_turn_by}
-use Rattle.gup_spec_turns.specs.Turn.{op_turn, failed_turn, turn_at}
+use Rattle.gup_spec_turns.specs.Turn.{op_turn, failed_turn, turn_at, own_turn}
 use Rattle.gup_spec_turns.specs.MirrorTurns.{fills as fills_slot, mirror_turn, look_turn}
 use Rattle.gup_spec_turns.specs.PinTurns.{pin_fault, pinned_if, cause_of, ends_pin, pin_turn_by, but_last, unpinned, get_turn, got_by, got_frame, raises, moves_first, clears_or_pins, pins_moved, moved_turn, pin_turn_at, begins_or_pins, pin_turn_in}
 use Rattle.gup_spec_turns.specs.WalkTurns.{begin_turn, is_same, all_turn, ready_turn, grab_turn, recheck_turn, split_last, last_turn, first_turn, walk_turn}
@@ -46,6 +46,9 @@ use Rattle.gup_law_turns.proofs.Puts.{some_same}
 use Rattle.gup_law_turns.proofs.NoteRightness.{unrefused_short, not_both}
 use Rattle.gup_law_turns.proofs.ShownTurns.{waits_no_birth}
 use Rattle.gup_law_turns.proofs.PageSearches.{free_in_free, free_in_allowed, none_free_in, denied_map, denied_protect}
+use Rattle.gup_law_tables.specs.Standing.{IsButForTables}
+use Rattle.gup_law_turns.proofs.TabledTurns.{but_for_sym}
+use Rattle.gup_law_turns.proofs.TurnAsOwn.{as_own}
 
 -- the answer is one for want of a frame, or of a short pin that ended so
 abbrev IsWantIn : Cause → Type 0
@@ -583,10 +586,9 @@ none_held s allowed none f below there free = none_free_in s allowed none f belo
 abbrev NeedsAt : CoreState → Doer → (far : ℕ) → Option Op → Option Waiting → Op → Type 0
 NeedsAt s who far present waiting op = (present ≡ Some op) × (waiting ≡ None) × (birth_for s.birth who ≡ born) × NeedsFor s who.actor who.proc far op
 
-finds_only : (s : CoreState) (who : Doer) (far : ℕ) (present : Option Op) (waiting : Option Waiting) → waiting_with s who far present ≡ waiting → LacksFrame (core_turn_by s who far present waiting).whats → (op : Op) × NeedsAt s who far present waiting op × AreHeld s (allowed_of op)
-finds_only s who far None waiting is lacks = absurd (lacking ⊥ (Idle ∷ []) ((λ e. e), tt) lacks)
-finds_only s who far (Some op) (Some waiting) is lacks = absurd (lacking ⊥ (Wait waiting ∷ []) ((λ e. e), tt) lacks)
-finds_only s who far (Some op) None is lacks = go (waits_no_birth (birth_for s.birth who) who.proc (waits_born s who.actor who.proc far op) is)
+-- the operation's own turn, but for page tables
+own_finds_only : (s : CoreState) (who : Doer) (far : ℕ) (op : Op) → (birth_for s.birth who ≡ born) ⊎ (birth_for s.birth who ≡ failed) → LacksFrame (own_turn s who far op).whats → (birth_for s.birth who ≡ born) × NeedsFor s who.actor who.proc far op × AreHeld s (allowed_of op)
+own_finds_only s who far op births lacks = go births
   where
     refused : CoreTurn
     refused = failed_turn who.actor who.proc op
@@ -594,21 +596,96 @@ finds_only s who far (Some op) None is lacks = go (waits_no_birth (birth_for s.b
     turn : CoreTurn
     turn = op_turn s who.actor who.proc who.slots far op
 
-    go : (birth_for s.birth who ≡ born) ⊎ (birth_for s.birth who ≡ failed) → (o : Op) × NeedsAt s who far (Some op) None o × AreHeld s (allowed_of o)
+    go : (birth_for s.birth who ≡ born) ⊎ (birth_for s.birth who ≡ failed) → (birth_for s.birth who ≡ born) × NeedsFor s who.actor who.proc far op × AreHeld s (allowed_of op)
     go (inl birth) =
         let exact = op_exact s who.actor who.proc who.slots far op in
         let finds = lacking (Finds s (allowed_of op) (NeedsFor s who.actor who.proc far op)) turn.whats exact.only (subst (λ (b : Birth). LacksFrame (turn_at b refused turn).whats) birth lacks) in
-        (op, (refl, refl, birth, finds.0), none_held s (allowed_of op) finds.1)
+        (birth, finds.0, none_held s (allowed_of op) finds.1)
     go (inr birth) =
         absurd (lacking ⊥ refused.whats (failed_cause s who.actor who.proc op) (subst (λ (b : Birth). LacksFrame (turn_at b refused turn).whats) birth lacks))
 
-finds_always : (s : CoreState) (who : Doer) (far : ℕ) (present : Option Op) (waiting : Option Waiting) (op : Op) → NeedsAt s who far present waiting op → AreHeld s (allowed_of op) → LacksFrame (core_turn_by s who far present waiting).whats
-finds_always s who far present waiting op needs held =
+own_finds_always : (s : CoreState) (who : Doer) (far : ℕ) (op : Op) → birth_for s.birth who ≡ born → NeedsFor s who.actor who.proc far op → AreHeld s (allowed_of op) → LacksFrame (own_turn s who far op).whats
+own_finds_always s who far op birth needs held =
     let exact = op_exact s who.actor who.proc who.slots far op in
-    let lacks : LacksFrame (op_turn s who.actor who.proc who.slots far op).whats = exact.always needs.3 (held_none s (allowed_of op) held) in
+    let lacks : LacksFrame (op_turn s who.actor who.proc who.slots far op).whats = exact.always needs (held_none s (allowed_of op) held) in
     let refused : CoreTurn = failed_turn who.actor who.proc op in
     let turn : CoreTurn = op_turn s who.actor who.proc who.slots far op in
-    let born_turn : LacksFrame (core_turn_by s who far (Some op) None).whats = subst (λ (b : Birth). LacksFrame (turn_at b refused turn).whats) (sym needs.2) lacks in
+    subst (λ (b : Birth). LacksFrame (turn_at b refused turn).whats) (sym birth) lacks
+
+-- what a turn needs it needs whatever page tables there are
+module _ (s t : CoreState) (same : IsButForTables s t) where
+  needs_writable : (entry : Option Entry) → NeedsWritable t entry → NeedsWritable s entry
+  needs_writable None h = h
+  needs_writable (Some e) h = subst (λ (x : CoreState). NeedsWritable x (Some e)) same h
+
+  needs_own : (entry : Option Entry) → NeedsOwn t entry → NeedsOwn s entry
+  needs_own None h = h
+  needs_own (Some e) h = subst (λ (x : CoreState). NeedsOwn x (Some e)) same h
+
+  needs_store : (p page : ℕ) → NeedsForStore t p page → NeedsForStore s p page
+  needs_store p page h =
+      let entry : t.entry p page ≡ s.entry p page = ap (λ (x : CoreState). x.entry p page) same in (
+        ap (λ (x : CoreState). x.right p page) (sym same) ∙ h.0,
+        needs_writable (s.entry p page) (subst (NeedsWritable t) entry h.1),
+      )
+
+  needs_pin : (p page : ℕ) (write : Bool) → NeedsForPin t p page write → NeedsForPin s p page write
+  needs_pin p page true h = needs_store p page h
+  needs_pin p page false h =
+      let entry : t.entry p page ≡ s.entry p page = ap (λ (x : CoreState). x.entry p page) same in (
+        subst (λ (x : CoreState). IsSome (x.right p page)) same h.0,
+        needs_own (s.entry p page) (subst (NeedsOwn t) entry h.1),
+      )
+
+  needs_at_page : (p page : ℕ) (write : Bool) (place : JobPlace) → NeedsAtPage t p page write place → NeedsAtPage s p page write place
+  needs_at_page p page write (moving_page g e counted_one) h = h
+  needs_at_page p page write (moving_page g e count) h = h
+  needs_at_page p page write (in_walk sequence step) h = h
+  needs_at_page p page write place h = needs_pin p page write h
+
+  needs_if_slow : (begins : Bool) (p page : ℕ) (write : Bool) (place : JobPlace) → NeedsIfSlow begins t p page write place → NeedsIfSlow begins s p page write place
+  needs_if_slow true p page write (moving_page g e count) h = needs_at_page p page write (moving_page g e count) h
+  needs_if_slow true p page write place h = h
+  needs_if_slow false p page write place h = needs_at_page p page write place h
+
+  needs_tabled : (a p far : ℕ) (op : Op) → NeedsFor t a p far op → NeedsFor s a p far op
+  needs_tabled a p far (Load page word) h = subst (λ (x : CoreState). NeedsForLoad x p page) same h
+  needs_tabled a p far (Store page word value) h = needs_store p page h
+  needs_tabled a p far (Pin handle page n want fast) h =
+      let at : place_in t a ≡ place_in s a = ap (λ (x : CoreState). place_in x a) same in
+      let many : length (t.taken a) ≡ length (s.taken a) = ap (λ (x : CoreState). length (x.taken a)) same in
+      needs_if_slow (fast && far == 0) p (page + length (s.taken a)) want.write (place_in s a)
+      (subst (λ (j : JobPlace). NeedsIfSlow (fast && far == 0) t p (page + length (s.taken a)) want.write j) at
+      (subst (λ (k : ℕ). NeedsIfSlow (fast && far == 0) t p (page + k) want.write (place_in t a)) many h))
+  needs_tabled a p far (Get handle page) h = subst (λ (x : CoreState). NeedsForLoad x p page) same h
+  needs_tabled a p far (Mirror mirror proc page) h = subst (λ (x : CoreState). NeedsForLoad x p page) same h
+  needs_tabled a p far (Move proc page zone) h = subst (λ (x : CoreState). NeedsFor x a p far (Move proc page zone)) same h
+  needs_tabled a p far (Fork child) h = subst (λ (x : CoreState). NeedsFor x a p far (Fork child)) same h
+  needs_tabled a p far op h = h
+
+-- whatever page tables there are
+finds_only : (s : CoreState) (who : Doer) (far : ℕ) (present : Option Op) (waiting : Option Waiting) → waiting_with s who far present ≡ waiting → LacksFrame (core_turn_by s who far present waiting).whats → (op : Op) × NeedsAt s who far present waiting op × AreHeld s (allowed_of op)
+finds_only s who far None waiting is lacks = absurd (lacking ⊥ (Idle ∷ []) ((λ e. e), tt) lacks)
+finds_only s who far (Some op) (Some waiting) is lacks = absurd (lacking ⊥ (Wait waiting ∷ []) ((λ e. e), tt) lacks)
+finds_only s who far (Some op) None is lacks =
+    let own = as_own s who far op in
+    let t : CoreState = own.state in
+    let births = waits_no_birth (birth_for s.birth who) who.proc (waits_born s who.actor who.proc far op) is in
+    let finds = own_finds_only t who far op (subst (λ (x : CoreState). (birth_for x.birth who ≡ born) ⊎ (birth_for x.birth who ≡ failed)) (sym own.before) births) (subst LacksFrame own.whats lacks) in
+    let needs : NeedsFor s who.actor who.proc far op = needs_tabled s t own.before who.actor who.proc far op finds.1 in
+    let held : AreHeld s (allowed_of op) = subst (λ (x : CoreState). AreHeld x (allowed_of op)) own.before finds.2 in
+    let birth : birth_for s.birth who ≡ born = subst (λ (x : CoreState). birth_for x.birth who ≡ born) own.before finds.0 in
+    (op, (refl, refl, birth, needs), held)
+
+finds_always : (s : CoreState) (who : Doer) (far : ℕ) (present : Option Op) (waiting : Option Waiting) (op : Op) → NeedsAt s who far present waiting op → AreHeld s (allowed_of op) → LacksFrame (core_turn_by s who far present waiting).whats
+finds_always s who far present waiting op needs held =
+    let own = as_own s who far op in
+    let t : CoreState = own.state in
+    let lacks = own_finds_always t who far op
+    (subst (λ (x : CoreState). birth_for x.birth who ≡ born) (sym own.before) needs.2)
+    (needs_tabled t s (but_for_sym s t own.before) who.actor who.proc far op needs.3)
+    (subst (λ (x : CoreState). AreHeld x (allowed_of op)) (sym own.before) held) in
+    let born_turn : LacksFrame (core_turn_by s who far (Some op) None).whats = subst LacksFrame (sym own.whats) lacks in
     let free : LacksFrame (core_turn_by s who far (Some op) waiting).whats = subst (λ (w : Option Waiting). LacksFrame (core_turn_by s who far (Some op) w).whats) (sym needs.1) born_turn in
     subst (λ (o : Option Op). LacksFrame (core_turn_by s who far o waiting).whats) (sym needs.0) free
 

@@ -29,13 +29,14 @@ use Rattle.gup_spec_turns.specs.JobPlace.{JobPlace, job_place, place_in, unbegun
 use Rattle.gup_spec_turns.specs.PinPlace.{StandsAtPage}
 use Rattle.gup_spec_turns.specs.PinTurns.{ends_pin, pin_turn, pin_turn_in}
 use Rattle.gup_spec_turns.specs.Run.{RunState, op_in, waiting_with, waiting_in, core_turn_by, core_turn_in, turn_in}
-use Rattle.gup_spec_turns.specs.Turn.{turn_at, failed_turn}
+use Rattle.gup_spec_turns.specs.Turn.{turn_at, failed_turn, own_turn}
 use Rattle.gup_spec_turns.specs.Waits.{both_if, pin_locks, waits_for_locks}
 use Rattle.gup_law_journal.proofs.MoveCauses.{moving_job}
 use Rattle.gup_law_turns.proofs.NoteRightness.{unrefused_short, not_both}
 use Rattle.gup_law_turns.proofs.StandingStates.{Stands}
 use Rattle.gup_law_turns.proofs.TurnShapes.{IsAtOnce, RefusesAt, FitsAt, TurnOf, refused, walked, refused_slowly, WalksTo, found_fork, found_unmovable, pinned_short, TurnAt, goes}
 use Rattle.gup_law_turns.proofs.TurnSteps.{taken}
+use Rattle.gup_law_turns.proofs.TurnAsOwn.{AsOwn, as_own}
 
 -- each of the notes that says so has its cause
 
@@ -191,12 +192,21 @@ module _ (script : ScriptValue) (r : RunState) (h : Stands script r) (a handle p
       ∙ ap (λ (l : Option ℕ). waits_for_locks (both_if needed) a None l) at.4.moving.locked
       ∙ own_lock a needed
 
+  own : AsOwn s who far op
+  own = as_own s who far op
+
+  -- the state with other page tables
+  abbrev beside : CoreState
+  beside = record s { free_table = own.state.free_table; place = own.state.place; retired = own.state.retired }
+
   says : (core_turn_in script r a).whats ≡ (pin_turn_in s a who.proc handle page n (length (s.taken a)) want fast far (moving job.0 g e job.1 (counted_more count))).whats
   says =
       ap (λ (w : Option Waiting). (core_turn_by s (doer_of script a (op_in script r a)) (r.places a).far (op_in script r a) w).whats) free
       ∙ ap (λ (o : Option Op). (core_turn_by s (doer_of script a o) (r.places a).far o None).whats) is
-      ∙ ap (λ (b : Birth). (turn_at b (failed_turn a who.proc op) (pin_turn s a who.proc handle page n want fast far)).whats) birth
-      ∙ ap (λ (j : Job). (pin_turn_in s a who.proc handle page n (length (s.taken a)) want fast far j).whats) job.2
+      ∙ own.whats
+      ∙ ap (λ (x : CoreState). (own_turn x who far op).whats) own.before
+      ∙ ap (λ (b : Birth). (turn_at b (failed_turn a who.proc op) (pin_turn beside a who.proc handle page n want fast far)).whats) birth
+      ∙ ap (λ (j : Job). (pin_turn_in beside a who.proc handle page n (length (s.taken a)) want fast far j).whats) job.2
 
   refuses_it : RefusesUnmovable (turn_in script r a).whats count
   refuses_it = subst (λ (whats : List What). RefusesUnmovable whats count) (sym says) (ended_says _ a handle n (length (s.taken a)) count)

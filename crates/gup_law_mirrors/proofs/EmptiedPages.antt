@@ -1,5 +1,5 @@
 -- A turn invalidates pages of its process alone, of which its operation may empty slots.
-use Rattle.std.proofs.Common.{◌≡◌, ℕ, ◌+◌, ◌==◌, ◌<◌, ◌&&◌, not, Bool, true, false, length, Option, Some, None, IsSome, refl, ap, ◌∙◌, if◌then◌else◌, arith}
+use Rattle.std.proofs.Common.{◌≡◌, ℕ, ◌+◌, ◌==◌, ◌<◌, ◌&&◌, not, Bool, true, false, length, Option, Some, None, IsSome, refl, sym, subst, ap, ◌∙◌, if◌then◌else◌, arith}
 use Rattle.std.proofs.lemmas.Bool.Decides.{nat_tests}
 use Rattle.gup_base.specs.declared.entry.Entry.{Entry}
 use Rattle.gup_base.specs.declared.entry.Want.{Want}
@@ -15,11 +15,13 @@ use Rattle.gup_spec_turns.specs.CoreTurn.{CoreTurn}
 use Rattle.gup_spec_turns.specs.Emptying.{one_page, has_page, invalidate, left_in}
 use Rattle.gup_spec_turns.specs.PageTurns.{lowest_page}
 use Rattle.gup_spec_turns.specs.PinPlace.{IsWithin}
-use Rattle.gup_spec_turns.specs.Turn.{op_turn, failed_turn, turn_at, turn_of}
+use Rattle.gup_spec_turns.specs.Turn.{op_turn, failed_turn, turn_at, turn_of, own_turn}
 use Rattle.gup_law_turns.proofs.EmptiedSlots.{emptying_stale}
 use Rattle.gup_law_turns.proofs.TurnShapes.{FitsOp}
 use Rattle.gup_law_mirrors.specs.Invalidated.{page_if, changes_page, for_store, pinned_in, moved_in, shared_in, range_from, invalidated_in}
 use Rattle.gup_law_mirrors.proofs.InvalidatingTurns.{invalidated_is}
+use Rattle.gup_law_turns.proofs.TabledTurns.{fits_tabled}
+use Rattle.gup_law_turns.proofs.TurnAsOwn.{as_own}
 
 -- Does an operation of process p that may empty slots of a page?
 abbrev pub empties_of : (p : ℕ) → Op → (q g : ℕ) → Bool
@@ -91,9 +93,19 @@ module _ (s : CoreState) (who : Doer) (place : Place) (op : Op) (valid : IsOp op
   either_spares birth q g some spared = born_spares q g some spared
 
   -- so a slot of another page stays filled
-  pub spares : (f : ℕ) (noted : Noted) → IsSome (s.entry noted.proc noted.page) → empties_of who.proc op noted.proc noted.page ≡ false → left_in (turn_of s who place.far op).events (Some f) (Some noted) ≡ Some f
-  spares f noted some spared =
+  own_spares : (f : ℕ) (noted : Noted) → IsSome (s.entry noted.proc noted.page) → empties_of who.proc op noted.proc noted.page ≡ false → left_in (own_turn s who place.far op).events (Some f) (Some noted) ≡ Some f
+  own_spares f noted some spared =
       let birth : Birth = birth_for s.birth who in
       let turn : CoreTurn = turn_at birth (failed_turn who.actor who.proc op) (op_turn s who.actor who.proc who.slots place.far op) in
       emptying_stale s who.actor turn (Some f) (Some noted)
       ∙ ap (λ (stale : Bool). if stale then None else Some f) (either_spares birth noted.proc noted.page some spared)
+
+-- whatever page tables there are
+pub spares : (s : CoreState) (who : Doer) (place : Place) (op : Op) → IsOp op → FitsOp s who op place → ((page : ℕ) (e : Entry) → s.entry who.proc page ≡ Some e → IsSome (s.right who.proc page)) → (f : ℕ) (noted : Noted) → IsSome (s.entry noted.proc noted.page) → empties_of who.proc op noted.proc noted.page ≡ false → left_in (turn_of s who place.far op).events (Some f) (Some noted) ≡ Some f
+spares s who place op valid fits maps f noted some spared =
+    let own = as_own s who place.far op in
+    let t : CoreState = own.state in
+    own.left (Some f) (Some noted)
+    ∙ own_spares t who place op valid (fits_tabled s t own.before who (Some op) place fits)
+    (subst (λ (x : CoreState). (page : ℕ) (e : Entry) → x.entry who.proc page ≡ Some e → IsSome (x.right who.proc page)) (sym own.before) maps)
+    f noted (subst (λ (x : CoreState). IsSome (x.entry noted.proc noted.page)) (sym own.before) some) spared

@@ -26,7 +26,7 @@ use Rattle.gup_spec_turns.specs.CoreTurn.{CoreTurn, answers_with, after_fault, f
 use Rattle.gup_spec_turns.specs.Emptying.{invalidate, left_in, emptying}
 use Rattle.gup_spec_turns.specs.MirrorTurns.{fills, mirror_turn, look_turn}
 use Rattle.gup_spec_turns.specs.Run.{RunState, AreTurns, run_start, op_in, waiting_in, run_after, core_turn_by, core_turn_in}
-use Rattle.gup_spec_turns.specs.Turn.{turn_at, turn_of}
+use Rattle.gup_spec_turns.specs.Turn.{turn_at, turn_of, own_turn}
 use Rattle.gup_law_turns.proofs.EmptiedSlots.{none_emptying}
 use Rattle.gup_law_turns.specs.Slots.{EmptiesSlots, LeavesSlot}
 use Rattle.gup_law_turns.proofs.EventLists.{Law}
@@ -40,6 +40,8 @@ use Rattle.gup_law_turns.proofs.TurnSteps.{taken, slots_left}
 use Rattle.gup_law_mirrors.proofs.EmptiedPages.{empties_of, spares}
 use Rattle.gup_law_mirrors.proofs.SlotNotes.{slots_of_turn, AreStaleNotes, IsAnswerLast, stale_append, IsNoMirror, AreOwn, own_last, own_stale, left_spared, own_spared, Own, turn_own}
 use Rattle.gup_spec_events.proofs.Runs.{run_behind}
+use Rattle.gup_law_tables.specs.Standing.{IsButForTables}
+use Rattle.gup_law_turns.proofs.TurnAsOwn.{as_own, idle_own}
 
 -- the slot is filled with this page
 pub record IsFilled (s : CoreState) (m : ℕ) (filled : PageOf) : Type 0 where
@@ -64,6 +66,25 @@ record KeepsSlots (s : CoreState) (p : ℕ) (op : Option Op) (turn : CoreTurn) :
 filled_alike : (s t : CoreState) (m : ℕ) (filled : PageOf) → t.mirrored m ≡ s.mirrored m → t.slot m ≡ s.slot m → IsFilled s m filled → IsFilled t m filled
 filled_alike s t m filled mirrored slot h =
     record { frame = h.frame; noted = h.noted; is = mirrored ∙ h.is; slot = slot ∙ h.slot; proc = h.proc; page = h.page }
+
+-- page tables are no slots
+filled_tabled : (s t : CoreState) → IsButForTables s t → (slots : Slots) → AreFilled slots s → AreFilled slots t
+filled_tabled s t same slots are m filled is =
+    filled_alike s t m filled (ap (λ (x : CoreState). x.mirrored m) same) (ap (λ (x : CoreState). x.slot m) same) (are m filled is)
+
+with_tables : (s : CoreState) (who : Doer) (far : ℕ) (op : Op) → ((t : CoreState) → KeepsSlots t who.proc (Some op) (own_turn t who far op)) → KeepsSlots s who.proc (Some op) (turn_of s who far op)
+with_tables s who far op keeps =
+    let own = as_own s who far op in
+    let t : CoreState = own.state in
+    let kept : KeepsSlots t who.proc (Some op) (own_turn t who far op) = keeps t in
+    let whats : List What = (own_turn t who far op).whats in
+    record {
+      last = subst IsAnswerLast (sym own.whats) kept.last;
+      stale = λ slots are. subst (λ (ws : List What). AreStaleNotes who.proc (Some op) ws slots) (sym own.whats) (kept.stale slots (filled_tabled s t own.before slots are));
+      filled = λ slots are.
+          subst (λ (ws : List What). AreFilled (slots_of_turn who.proc (Some op) ws slots) (run s (turn_of s who far op).events)) (sym own.whats)
+          (filled_tabled (run t (own_turn t who far op).events) (run s (turn_of s who far op).events) own.after (slots_of_turn who.proc (Some op) whats slots) (kept.filled slots (filled_tabled s t own.before slots are)));
+    }
 
 module _ (s : CoreState) where
   -- ---- mirrors
@@ -190,21 +211,21 @@ module _ (s : CoreState) where
   no_wait slots (Look mirror word) waiting = tt
   no_wait slots op waiting = tt
 
-  -- ---- the turn of whoever has an operation, or none
+-- ---- the turn of whoever has an operation, or none
 
-  module _ (script : ScriptValue) (a : ℕ) (place : Place) (sound : IsSound s) (maps : (p page : ℕ) (e : Entry) → s.entry p page ≡ Some e → IsSome (s.right p page)) where
-    any_keeps : (op : Option Op) (waiting : Option Waiting) → ((o : Op) → op ≡ Some o → IsOp o) → FitsAt s (doer_of script a op) op place → EmptiesSlots s op (core_turn_by s (doer_of script a op) place.far op waiting) → Own op waiting (core_turn_by s (doer_of script a op) place.far op waiting).whats → KeepsSlots s (doer_of script a op).proc op (core_turn_by s (doer_of script a op) place.far op waiting)
-    any_keeps None waiting range fits left own = record { last = tt; stale = λ slots are. (tt, tt); filled = λ slots are. are }
-    any_keeps (Some op) (Some waiting) range fits left own = record { last = tt; stale = λ slots are. (no_wait slots op waiting, tt); filled = λ slots are. are }
-    any_keeps (Some (Mirror mirror q page)) None range fits left own =
-        let who : Doer = doer_of script a (Some (Mirror mirror q page)) in
-        mirror_by a q mirror q page (birth_for s.birth who)
-    any_keeps (Some (Look mirror word)) None range fits left own =
-        let who : Doer = doer_of script a (Some (Look mirror word)) in
-        look_by a who.proc mirror word (birth_for s.birth who)
-    any_keeps (Some op) None range fits left own =
-        let who : Doer = doer_of script a (Some op) in
-        own_keeps who.proc op (turn_of s who place.far op) sound tt (own tt) left (spares s who place op (range op refl) fits (maps who.proc))
+module _ (s : CoreState) (script : ScriptValue) (a : ℕ) (place : Place) (sound : IsSound s) (maps : (p page : ℕ) (e : Entry) → s.entry p page ≡ Some e → IsSome (s.right p page)) where
+  any_keeps : (op : Option Op) (waiting : Option Waiting) → ((o : Op) → op ≡ Some o → IsOp o) → FitsAt s (doer_of script a op) op place → EmptiesSlots s op (core_turn_by s (doer_of script a op) place.far op waiting) → Own op waiting (core_turn_by s (doer_of script a op) place.far op waiting).whats → KeepsSlots s (doer_of script a op).proc op (core_turn_by s (doer_of script a op) place.far op waiting)
+  any_keeps None waiting range fits left own = record { last = tt; stale = λ slots are. (tt, tt); filled = λ slots are. are }
+  any_keeps (Some op) (Some waiting) range fits left own = record { last = tt; stale = λ slots are. (no_wait s slots op waiting, tt); filled = λ slots are. are }
+  any_keeps (Some (Mirror mirror q page)) None range fits left own =
+      let who : Doer = doer_of script a (Some (Mirror mirror q page)) in
+      with_tables s who place.far (Mirror mirror q page) (λ t. mirror_by t a q mirror q page (birth_for t.birth who))
+  any_keeps (Some (Look mirror word)) None range fits left own =
+      let who : Doer = doer_of script a (Some (Look mirror word)) in
+      subst (KeepsSlots s who.proc (Some (Look mirror word))) (sym (idle_own s who place.far (Look mirror word) tt)) (look_by s a who.proc mirror word (birth_for s.birth who))
+  any_keeps (Some op) None range fits left own =
+      let who : Doer = doer_of script a (Some op) in
+      own_keeps s who.proc op (turn_of s who place.far op) sound tt (own tt) left (spares s who place op (range op refl) fits (maps who.proc))
 
 -- each entry is of a mapped page
 entry_mapped : (s : CoreState) (p page : ℕ) (e : Entry) → IsSound s → (s.birth p ≡ failed → s.entry p page ≡ None) → s.entry p page ≡ Some e → (rights : Option Rights) → s.right p page ≡ rights → IsSome rights

@@ -33,7 +33,7 @@ same_in : {X : Type 0} (read_in : CoreState → X) → ((s : CoreState) (free : 
 same_in read_in unseen s t same = ap read_in same ∙ unseen s t.free_table t.place t.retired
 
 -- and who might change tables, still may
-shape_after : (s t : CoreState) (a p : ℕ) → IsButForTables s t → MayShape s a p → MayShape t a p
+pub shape_after : (s t : CoreState) (a p : ℕ) → IsButForTables s t → MayShape s a p → MayShape t a p
 shape_after s t a p same may = subst (λ (x : CoreState). MayShape x a p) (sym same) may
 
 pub reclaims_kept : (s : CoreState) (a p : ℕ) → IsButForTables s (run s (reclaims s a p))

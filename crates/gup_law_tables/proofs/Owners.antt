@@ -158,15 +158,16 @@ module _ (free : ℕ → Bool) (place : ℕ → ℕ → Option Place) (retired :
       waiting = λ q other waits. (
         (owned.waiting q other waits).0,
         ⊎_elim
-        (λ (here : q ≡ p). ⊎_elim
-        (λ (it : other ≡ table).
-        let had : has (place q) (retired q) table ≡ true = right_true (is_some (place q table)) (is_among (retired q) table) (rw it at waits) in
-        let none = not_had q table is_free in
-        absurd (cc (had, none)))
-        (λ (away : other ≢ table). rw (here, here2 p table (Some at) place) (put_other table (Some at) (place p) other away ∙ (rw here at ((owned.waiting q other waits).1))))
-        (cases_eq other table))
-        (λ (away : q ≢ p). rw (away2 p table (Some at) place q away) ((owned.waiting q other waits).1))
-        (cases_eq q p));
+            (λ (here : q ≡ p). ⊎_elim
+            (λ (it : other ≡ table).
+            let had : has (place q) (retired q) table ≡ true = right_true (is_some (place q table)) (is_among (retired q) table) (rw it at waits) in
+            let none = not_had q table is_free in
+            absurd (cc (had, none)))
+            (λ (away : other ≢ table). rw (here, here2 p table (Some at) place) (put_other table (Some at) (place p) other away ∙ (rw here at ((owned.waiting q other waits).1))))
+            (cases_eq other table))
+            (λ (away : q ≢ p). rw (away2 p table (Some at) place q away) ((owned.waiting q other waits).1))
+            (cases_eq q p),
+      );
       once = owned.once;
     }
 

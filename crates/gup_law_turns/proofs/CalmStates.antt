@@ -1,10 +1,10 @@
 -- A state in which no mirror slot is filled, and of which events turns are made.
-use Rattle.std.proofs.Common.{◌≡◌, ℕ, ◌<◌, Bool, List, [], ◌∷◌, Option, None}
+use Rattle.std.proofs.Common.{◌≡◌, ℕ, ◌<◌, Bool, List, [], ◌∷◌, Option, None, ◌⊎◌}
 use Rattle.gup_base.specs.declared.entry.Allowed.{Allowed}
 use Rattle.gup_base.specs.declared.entry.Entry.{Entry}
 use Rattle.gup_base.specs.declared.entry.Rights.{Rights}
 use Rattle.gup_spec_events.specs.State.{CoreState, ForkStep, Counted, WalkStep, Taken}
-use Rattle.gup_spec_events.specs.Event.{CoreEvent, take_frame, fill, count_one, set_mark, upgrade, break_entry, put_entry, map_pages, lower_entry, protect_pages, drop_entry, discard_entry, load, store, raise_flag, pin_page, make_handle, unpin_page, give_handle, take_handle, get_reference, put_reference, move_out, move_in, begin_fork, count_page, share_entry, share_mark, share_child, copy_word, place_child, pass_page, end_fork, fail_fork, put_child, fail_unborn, clear_entry, count_moved, place_frame, restore_entry, enter_walk, read_sequence, read_entry, grab_frame, miss_frame, recheck_same, recheck_other, read_mark, read_again, drop_grab, drop_last, drop_first, leave_walk, empty_mirror, fill_mirror, look}
+use Rattle.gup_spec_events.specs.Event.{CoreEvent, take_frame, fill, count_one, set_mark, upgrade, break_entry, put_entry, map_pages, lower_entry, protect_pages, drop_entry, discard_entry, add_table, take_out, reclaim, load, store, raise_flag, pin_page, make_handle, unpin_page, give_handle, take_handle, get_reference, put_reference, move_out, move_in, begin_fork, count_page, share_entry, share_mark, share_child, copy_word, place_child, pass_page, end_fork, fail_fork, put_child, fail_unborn, clear_entry, count_moved, place_frame, restore_entry, enter_walk, read_sequence, read_entry, grab_frame, miss_frame, recheck_same, recheck_other, read_mark, read_again, drop_grab, drop_last, drop_first, leave_walk, empty_mirror, fill_mirror, look}
 use Rattle.gup_script.specs.Limits.{most_mirrors}
 
 -- no mirror is filled
@@ -57,6 +57,9 @@ pub data IsTurnEvent (a p c : ℕ) (strand : Strand) : CoreEvent → Type 0 wher
   protecting : (page n : ℕ) (rights : Rights) → IsTurnEvent a p c strand (protect_pages a p page n rights)
   dropping : (page : ℕ) (was : Option Entry) → IsTurnEvent a p c strand (drop_entry a p page was)
   discarding : (page : ℕ) (was : Option Entry) → IsTurnEvent a p c strand (discard_entry a p page was)
+  adding : (q page table : ℕ) → (q ≡ p) ⊎ (q ≡ c) → IsTurnEvent a p c strand (add_table a q page table)
+  taking_table : (q page table : ℕ) → (q ≡ p) ⊎ (q ≡ c) → IsTurnEvent a p c strand (take_out a q page table)
+  reclaiming : (q : ℕ) → (q ≡ p) ⊎ (q ≡ c) → IsTurnEvent a p c strand (reclaim a q)
   loading : (page word f value : ℕ) → IsTurnEvent a p c strand (load a p page word f value)
   storing : (page word f value : ℕ) → IsTurnEvent a p c strand (store a p page word f value)
   raising : (h : ℕ) → strand ≡ of_pin h → IsTurnEvent a p c strand (raise_flag a p)

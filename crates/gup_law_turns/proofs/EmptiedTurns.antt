@@ -14,6 +14,7 @@ use Rattle.gup_spec_events.specs.State.{CoreState, Job, idle, moving, forking, w
 use Rattle.gup_spec_events.specs.Event.{CoreEvent, IsUnmirrored, Can, happens, run}
 use Rattle.gup_spec_events.specs.Invariant.{AllCan, frame_of}
 use Rattle.gup_law_base.specs.Sound.{View, IsSound}
+use Rattle.gup_spec_tables.specs.declared.place.Place.{Place as TablePlace}
 use Rattle.gup_spec_journal.specs.Place.{Place, Doer, place_after}
 use Rattle.gup_spec_turns.specs.CoreTurn.{CoreTurn}
 use Rattle.gup_spec_turns.specs.Emptying.{PageRange, one_page, has_page, invalidated_by, invalidate, is_stale, left_in, empties, emptying}
@@ -48,11 +49,15 @@ calmed_sound s sound =
     let mirror_names : (m f : ℕ) (noted : Noted) → t.mirrored m ≡ Some f → t.slot m ≡ Some noted → v.names noted.proc noted.page ≡ Some noted.object = λ m f noted filled. absurd (cc filled) in
     (v, assumption)
 
--- ---- what doesn't ask for slots
+-- ---- what asks neither for slots nor for page tables
 
-module _ (filled : ℕ → Option ℕ) (s : CoreState) where
+-- the state with other ones
+abbrev pub beside : (filled : ℕ → Option ℕ) (free : ℕ → Bool) (place : ℕ → ℕ → Option TablePlace) (retired : ℕ → List ℕ) → CoreState → CoreState
+beside filled free place retired s = record s { mirrored = filled; free_table = free; place = place; retired = retired }
+
+module _ (filled : ℕ → Option ℕ) (free : ℕ → Bool) (tables : ℕ → ℕ → Option TablePlace) (retired : ℕ → List ℕ) (s : CoreState) where
   abbrev with_slots : CoreState
-  with_slots = mirroring filled s
+  with_slots = beside filled free tables retired s
 
   forking_with : (a p child q c : ℕ) (done : List ℕ) → IsForking s a p child q c done → IsForking with_slots a p child q c done
   forking_with a p child q c done h = assumption
@@ -63,7 +68,7 @@ module _ (filled : ℕ → Option ℕ) (s : CoreState) where
   moving_with : (a p page : ℕ) → IsMoving s a p page → IsMoving with_slots a p page
   moving_with a p page h = assumption
 
-  stands_fork : (a p child : ℕ) (job : Job) (prepared : Option ℕ) → StandsFork s a p child job prepared → StandsFork with_slots a p child job prepared
+  pub stands_fork : (a p child : ℕ) (job : Job) (prepared : Option ℕ) → StandsFork s a p child job prepared → StandsFork with_slots a p child job prepared
   stands_fork a p child (forking q c done between) prepared h = forking_with a p child q c done h
   stands_fork a p child (forking q c done (counted page)) prepared h = (forking_with a p child q c done h.0, counted_with a p child done page h.1)
   stands_fork a p child (forking q c done (copying page word)) prepared h =
@@ -75,7 +80,7 @@ module _ (filled : ℕ → Option ℕ) (s : CoreState) where
   fits_fork a p child place (forking q c done step) prepared h = (h.0, stands_fork a p child (forking q c done step) prepared h.1)
   fits_fork a p child place job prepared h = h
 
-  stands_move : (a p page : ℕ) (zone : Zone) (job : Job) → StandsMove s a p page zone job → StandsMove with_slots a p page zone job
+  pub stands_move : (a p page : ℕ) (zone : Zone) (job : Job) → StandsMove s a p page zone job → StandsMove with_slots a p page zone job
   stands_move a p page zone (moving q g e allowed count) h = (h.0, h.1, h.2, h.3, moving_with a p page h.4)
   stands_move a p page zone job h = h
 
@@ -93,7 +98,7 @@ module _ (filled : ℕ → Option ℕ) (s : CoreState) where
   walking_pin : (p page n got : ℕ) (want : Want) (fast : Bool) (q : ℕ) (write long : Bool) (sequence : ℕ) (step : WalkStep) → IsWalkingPin s p page n got want fast q write long sequence step → IsWalkingPin with_slots p page n got want fast q write long sequence step
   walking_pin p page n got want fast q write long sequence step h = let there = read_there step h.there in assumption
 
-  stands_at : (a p page n got : ℕ) (want : Want) (fast : Bool) (job : Job) → StandsAtPage s a p page n got want fast job → StandsAtPage with_slots a p page n got want fast job
+  pub stands_at : (a p page n got : ℕ) (want : Want) (fast : Bool) (job : Job) → StandsAtPage s a p page n got want fast job → StandsAtPage with_slots a p page n got want fast job
   stands_at a p page n got want fast (moving q g e allowed count) h = (h.0, h.1, h.2, h.3, moving_pin a p page want e h.4)
   stands_at a p page n got want fast (walking q write long sequence step) h = walking_pin p page n got want fast q write long sequence step h
   stands_at a p page n got want fast job h = h
@@ -101,16 +106,22 @@ module _ (filled : ℕ → Option ℕ) (s : CoreState) where
   fits_pin : (a p handle page n : ℕ) (want : Want) (fast : Bool) (place : Place) (taken : List Taken) (job : Job) → FitsPin s a p handle page n want fast place taken job → FitsPin with_slots a p handle page n want fast place taken job
   fits_pin a p handle page n want fast place taken job h = let at = stands_at a p (page + _) n _ want fast job h.at in assumption
 
-  pub fits_with : (who : Doer) (op : Option Op) (place : Place) → FitsAt s who op place → FitsAt with_slots who op place
-  fits_with who (Some (Pin handle page n want fast)) place h = fits_pin who.actor who.proc handle page n want fast place (s.taken who.actor) (s.job who.actor) h
-  fits_with who (Some (Move proc page zone)) place h = (h.0, h.1, fits_move who.actor who.proc page zone place (s.job who.actor) h.2)
-  fits_with who (Some (Fork child)) place h = (h.0, fits_fork who.actor who.proc child place (s.job who.actor) (s.prepared who.actor) h.1)
-  fits_with who op place h = h
+  pub fits_beside : (who : Doer) (op : Option Op) (place : Place) → FitsAt s who op place → FitsAt with_slots who op place
+  fits_beside who (Some (Pin handle page n want fast)) place h = fits_pin who.actor who.proc handle page n want fast place (s.taken who.actor) (s.job who.actor) h
+  fits_beside who (Some (Move proc page zone)) place h = (h.0, h.1, fits_move who.actor who.proc page zone place (s.job who.actor) h.2)
+  fits_beside who (Some (Fork child)) place h = (h.0, fits_fork who.actor who.proc child place (s.job who.actor) (s.prepared who.actor) h.1)
+  fits_beside who op place h = h
 
-  next_with : (who : Doer) (op : Option Op) (place : Place) (whats : List What) → FitsNext s who op place whats → FitsNext with_slots who op place whats
-  next_with who op place [] h = fits_with who op place h
-  next_with who op place (Done answer ∷ whats) h = h
-  next_with who op place (what ∷ whats) h = next_with who op (place_after place what) whats h
+  pub next_beside : (who : Doer) (op : Option Op) (place : Place) (whats : List What) → FitsNext s who op place whats → FitsNext with_slots who op place whats
+  next_beside who op place [] h = fits_beside who op place h
+  next_beside who op place (Done answer ∷ whats) h = h
+  next_beside who op place (what ∷ whats) h = next_beside who op (place_after place what) whats h
+
+pub fits_with : (filled : ℕ → Option ℕ) (s : CoreState) (who : Doer) (op : Option Op) (place : Place) → FitsAt s who op place → FitsAt (mirroring filled s) who op place
+fits_with filled s who op place h = fits_beside filled s.free_table s.place s.retired s who op place h
+
+next_with : (filled : ℕ → Option ℕ) (s : CoreState) (who : Doer) (op : Option Op) (place : Place) (whats : List What) → FitsNext s who op place whats → FitsNext (mirroring filled s) who op place whats
+next_with filled s who op place whats h = next_beside filled s.free_table s.place s.retired s who op place whats h
 
 makes_with : (before behind : ℕ → Option ℕ) (s t : CoreState) (a : ℕ) (op : Op) → MakesPin s t a op → MakesPin (mirroring before s) (mirroring behind t) a op
 makes_with before behind s t a (Pin handle page n want fast) h = h

@@ -43,3 +43,7 @@ pub mod ScriptPlaces
 pub mod ActorPlaces
 pub mod EmptiedSlots
 pub mod EmptiedTurns
+pub mod TableLists
+pub mod TabledTurns
+pub mod GrowingTurns
+pub mod TurnAsOwn

@@ -36,6 +36,7 @@ use Rattle.gup_law_turns.proofs.Puts.{put_same}
 use Rattle.gup_law_turns.proofs.ScriptPlaces.{fresh_place}
 use Rattle.gup_law_turns.proofs.TurnShapes.{references_of, TurnAt, goes, unborn_refused, unborn_fork, child_of, strand_of}
 use Rattle.gup_law_turns.proofs.StandingStates.{IsTaken}
+use Rattle.gup_law_turns.proofs.TurnAsOwn.{idle_own, lost_own}
 
 -- What may come of a pin in a turn of an actor, which has given back so many of its pages before it, and so many after
 -- it.
@@ -208,7 +209,8 @@ module _ (script : ScriptValue) (s : CoreState) (who : Doer) (place : Place) whe
   unpin_change : (handle : ℕ) → birth_for s.birth who ≡ born → present_op script who.actor place ≡ Some (Unpin handle) → IsTaken s who place (Some (Unpin handle)) None (core_turn_by s who place.far (Some (Unpin handle)) None) → ChangeBy handle (Some (Unpin handle)) (core_turn_by s who place.far (Some (Unpin handle)) None)
   unpin_change handle birth is turns =
       let same : core_turn_by s who place.far (Some (Unpin handle)) None ≡ unpin_turn s who.actor handle =
-      ap (λ (b : Birth). emptying s who.actor (turn_at b (failed_turn who.actor who.proc (Unpin handle)) (unpin_turn s who.actor handle))) birth
+      idle_own s who place.far (Unpin handle) tt
+      ∙ ap (λ (b : Birth). emptying s who.actor (turn_at b (failed_turn who.actor who.proc (Unpin handle)) (unpin_turn s who.actor handle))) birth
       ∙ about_same s who.actor handle (unpin_turn s who.actor handle) (about_unpin who.actor handle (is_held_by (s.handle handle) who.actor) (s.pinned handle)) in
       let can = subst (λ (turn : CoreTurn). AllCan s turn.events) same turns.done.can in
       subst (ChangeBy handle (Some (Unpin handle))) (sym same) (unpin_by handle (is_held_by (s.handle handle) who.actor) refl is can)
@@ -275,7 +277,8 @@ module _ (script : ScriptValue) (s : CoreState) (who : Doer) (place : Place) whe
   failed_changes : (h : ℕ) (op : Op) → birth_for s.birth who ≡ failed → place.far ≡ 0 → place_behind place (going op).whats ≡ fresh_place (place.answered + 1) → ChangeBy h (Some op) (going op)
   failed_changes h op birth first over =
       let same : going op ≡ emptying s who.actor (failed_turn who.actor who.proc op) =
-      ap (λ (b : Birth). emptying s who.actor (turn_at b (failed_turn who.actor who.proc op) (op_turn s who.actor who.proc who.slots place.far op))) birth in
+      lost_own s who place.far op birth
+      ∙ ap (λ (b : Birth). emptying s who.actor (turn_at b (failed_turn who.actor who.proc op) (op_turn s who.actor who.proc who.slots place.far op))) birth in
       let kept = subst (λ (turn : CoreTurn). KeepsPin h s (run s turn.events)) (sym same) (emptying_keeps h (failed_turn who.actor who.proc op) (failed_keeps h op)) in
       let before : given_back (Some op) h place.far ≡ 0 = ap (given_back (Some op) h) first ∙ first_back (Some op) h in
       let behind : back_behind h (going op).whats ≡ 0 = ap (λ (q : Place). given_back (present_op script who.actor q) h q.far) over ∙ first_back (present_op script who.actor (fresh_place (place.answered + 1))) h in

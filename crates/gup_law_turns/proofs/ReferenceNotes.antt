@@ -22,7 +22,7 @@ use Rattle.gup_spec_turns.specs.CoreTurn.{CoreTurn, answers_with, free_frame}
 use Rattle.gup_spec_turns.specs.JobPlace.{JobPlace}
 use Rattle.gup_spec_turns.specs.PinTurns.{gets, get_turn, got_frame, got_by, put_turn}
 use Rattle.gup_spec_turns.specs.Run.{RunState, run_after, op_in, waiting_in, core_turn_by, core_turn_in}
-use Rattle.gup_spec_turns.specs.Turn.{turn_at}
+use Rattle.gup_spec_turns.specs.Turn.{turn_at, own_turn, turn_of}
 use Rattle.gup_spec_turns.proofs.TurnParts.{gets_after, put_turn_by}
 use Rattle.gup_spec_turns.specs.Emptying.{emptying}
 use Rattle.gup_spec_turns.proofs.Unseen.{emptying_reads}
@@ -33,6 +33,7 @@ use Rattle.gup_law_turns.proofs.Puts.{by_points}
 use Rattle.gup_law_turns.proofs.StandingStates.{Stands, IsTaken}
 use Rattle.gup_law_turns.proofs.TurnShapes.{references_of, WalksTo, walked, TurnOf, refused, TurnAt, goes, child_of, strand_of}
 use Rattle.gup_law_turns.proofs.TurnSteps.{taken}
+use Rattle.gup_law_turns.proofs.TurnAsOwn.{as_own}
 
 -- a turn says nothing after an answer
 
@@ -142,14 +143,32 @@ module _ (ops : List Op) (s : CoreState) (who : Doer) (place : Place) where
       none_behind ops (references_of s) who.actor op place turn.whats (turn_ends turns.shape) is none
       ∙ ap (λ (got : ℕ → Option (ℕ × ℕ)). λ (h : ℕ). got_by (got h)) (sym (left.kept (no_get op none) (no_put op none)))
 
-  alike : (op : Option Op) (waiting : Option Waiting) → slice_get ops place.answered ≡ op → IsTaken s who place op waiting (core_turn_by s who place.far op waiting) → AreAlike (core_turn_by s who place.far op waiting)
-  alike (Some (Get handle page)) (Some waiting) is turns = by_note (Some (Get handle page)) (Wait waiting) (references_of s) is refl
-  alike (Some (Get handle page)) None is turns =
+  -- the operation's own turn, of a get and of a put
+  get_own : (handle page : ℕ) → slice_get ops place.answered ≡ Some (Get handle page) → AreAlike (own_turn s who place.far (Get handle page))
+  get_own handle page is =
       alike_emptied (turn_at (birth_for s.birth who) (answers_with answers.Unborn) (get_turn s who.actor who.proc handle page (s.entry who.proc page))) (get_alike handle page is (birth_for s.birth who))
-  alike (Some (Put handle)) (Some waiting) is turns = by_note (Some (Put handle)) (Wait waiting) (references_of s) is refl
-  alike (Some (Put handle)) None is turns =
+
+  put_own : (handle : ℕ) → slice_get ops place.answered ≡ Some (Put handle) → AreAlike (own_turn s who place.far (Put handle))
+  put_own handle is =
       alike_emptied (turn_at (birth_for s.birth who) (answers_with answers.Unborn) (put_turn s who.actor handle)) (put_alike handle is (birth_for s.birth who))
-  alike op waiting is turns = other_alike op waiting tt is turns
+
+module _ (ops : List Op) (s : CoreState) (who : Doer) (place : Place) where
+  -- page tables are no references
+  with_tables : (op : Op) → ((t : CoreState) → AreAlike ops t who place (own_turn t who place.far op)) → AreAlike ops s who place (turn_of s who place.far op)
+  with_tables op alike =
+      let own = as_own s who place.far op in
+      let t : CoreState = own.state in
+      ap (λ (k : References). references_behind ops k who.actor place (turn_of s who place.far op).whats) (sym (ap references_of own.before))
+      ∙ ap (references_behind ops (references_of t) who.actor place) own.whats
+      ∙ alike t
+      ∙ sym (ap references_of own.after)
+
+  alike : (op : Option Op) (waiting : Option Waiting) → slice_get ops place.answered ≡ op → IsTaken s who place op waiting (core_turn_by s who place.far op waiting) → AreAlike ops s who place (core_turn_by s who place.far op waiting)
+  alike (Some (Get handle page)) (Some waiting) is turns = by_note ops s who place (Some (Get handle page)) (Wait waiting) (references_of s) is refl
+  alike (Some (Get handle page)) None is turns = with_tables (Get handle page) (λ t. get_own ops t who place handle page is)
+  alike (Some (Put handle)) (Some waiting) is turns = by_note ops s who place (Some (Put handle)) (Wait waiting) (references_of s) is refl
+  alike (Some (Put handle)) None is turns = with_tables (Put handle) (λ t. put_own ops t who place handle is)
+  alike op waiting is turns = other_alike ops s who place op waiting tt is turns
 
 pub same_references : (script : ScriptValue) → IsScript script → (r : RunState) → Stands script r → (a : ℕ) → references_behind (ops_of script a) (references_of r.core) a (r.places a) (core_turn_in script r a).whats ≡ references_of (run_after script r a).core
 same_references script valid r h a =

@@ -11,6 +11,7 @@ use Rattle.gup_script.specs.declared.op.Op.TheVariants.{Fork}
 use Rattle.gup_spec_events.specs.State.{CoreState, plain_of}
 use Rattle.gup_spec_events.specs.Event.{run}
 use Rattle.gup_law_base.specs.Sound.{IsSound}
+use Rattle.gup_law_tables.specs.Standing.{TablesStand}
 use Rattle.gup_spec_journal.specs.Place.{Place, Doer, doer_of, birth_for}
 use Rattle.gup_plain.specs.Pages.{sum_below, mapped_pages}
 use Rattle.gup_spec_turns.specs.JobPlace.{place_in}
@@ -42,6 +43,7 @@ IsAhead place k = (place.answered < k) ⊎ ((place.answered ≡ k) × (place.far
 -- what holds of a run between two turns
 pub record Stands (script : ScriptValue) (r : RunState) : Type 0 where
   pub sound : IsSound r.core
+  pub tables : TablesStand r.core
   -- no slot past the last one is filled
   pub slots : (m f : ℕ) → r.core.mirrored m ≡ Some f → m < most_mirrors
   pub there : AreCountedThere r.core

@@ -20,6 +20,8 @@ use Rattle.gup_script.specs.declared.op.Op.TheVariants.{Pin, Unpin, Get, Transfe
 use Rattle.gup_spec_events.specs.State.{CoreState, Job, idle, forking, between, counted, copying, plain_of, core_start, moving, Taken, pending_of, walking, WalkStep, read}
 use Rattle.gup_spec_events.specs.Event.{run}
 use Rattle.gup_law_base.specs.Sound.{IsSound}
+use Rattle.gup_spec_tables.specs.Tables.{table_numbers}
+use Rattle.gup_law_tables.proofs.TableRuns.{first_stand, stand_run}
 use Rattle.gup_spec_journal.specs.Denial.{References}
 use Rattle.gup_spec_journal.specs.Order.{plain_behind}
 use Rattle.gup_spec_journal.specs.Place.{Place, Doer, doer, place_behind, process_of, ops_of, present_op, birth_by, birth_for, is_born, starts_born, doer_of, first_place}
@@ -613,6 +615,7 @@ module _ (script : ScriptValue) (valid : IsScript script) (r : RunState) (h : St
   stands law =
       record {
         sound = (leads law s turn.events h.sound turns.done.can).sound;
+        tables = stand_run s turn.events h.tables turns.done.can;
         slots = stays_within s a p c (strand_of op) turn.events turns.done.kinds h.slots;
         there = stays_counted law s a p c (strand_of op) turn.events turns.done.kinds h.sound turns.done.can h.there;
         rest = rest_on;
@@ -687,12 +690,17 @@ starts_unborn : (process : Option Process) → IsChild process → (if is_born p
 starts_unborn None child = absurd child
 starts_unborn (Some process) child = rw child refl
 
+few_tables : (script : ScriptValue) → IsScript script → script.frames.tables ≤ table_numbers
+unfolding table_numbers
+few_tables script valid = valid.few_tables
+
 pub stands_first : Starts → (script : ScriptValue) → IsScript script → Stands script (run_start script)
 stands_first starts script valid =
     let unforked : (a k child : ℕ) → ForksAt script a k child → (run_start script).core.birth child ≡ unborn =
     λ a k child forks. starts_unborn (process_at script child) (child_is script valid a k child forks) in
     record {
       sound = starts script.frames.movable script.frames.normal script.frames.tables (starts_born script);
+      tables = first_stand script.frames.movable script.frames.normal script.frames.tables (starts_born script) (few_tables script valid);
       slots = λ m f filled. absurd (cc filled);
       there = λ f some. absurd (some refl);
       rest = λ a. record { prepared = refl; owed = refl };

@@ -1,6 +1,6 @@
 -- A run's turns: each can be done and has one of the shapes.
-use Rattle.std.proofs.Common.{◌≡◌, ℕ, ◌+◌, length, ◌≤◌, ◌<◌, Bool, true, false, IsTrue, [], ◌∷◌, Option, Some, None, refl, ap, sym, subst, ◌∙◌, zero, suc, arith}
-use Rattle.gup_plain.specs.State.{Birth, unborn, born, failed}
+use Rattle.std.proofs.Common.{◌≡◌, ℕ, ◌+◌, length, ◌≤◌, ◌<◌, Bool, true, false, IsTrue, List, [], ◌∷◌, Option, Some, None, refl, ap, sym, subst, ◌∙◌, zero, suc, arith}
+use Rattle.gup_plain.specs.State.{Birth, Noted, unborn, born, failed}
 use Rattle.gup_plain.specs.declared.answer.Answer.TheVariants as answers
 use Rattle.gup_plain.specs.declared.event.PlainEvent.TheVariants as events
 use Rattle.gup_plain.specs.declared.note.What.TheVariants.{Idle, Wait, Event, Done}
@@ -16,7 +16,8 @@ use Rattle.gup_script.specs.declared.op.Kind.TheVariants.{Thread, Device, Mover}
 use Rattle.gup_script.specs.declared.op.Op.{Op}
 use Rattle.gup_script.specs.declared.op.Op.TheVariants.{Map, Unmap, Protect, Discard, Load, Store, Pin, Unpin, Give, Take, Get, Put, Transfer, Mirror, Look, Fork, Exit, Move}
 use Rattle.gup_spec_events.specs.State.{CoreState, Job, idle, forking, plain_of, moving, unread, one, more, walking}
-use Rattle.gup_spec_events.specs.Event.{run}
+use Rattle.gup_spec_events.specs.Event.{CoreEvent, run}
+use Rattle.gup_spec_events.specs.Invariant.{AllCan}
 use Rattle.gup_spec_journal.specs.Follows.{refuses}
 use Rattle.gup_spec_journal.specs.Order.{handle_waits}
 use Rattle.gup_spec_journal.specs.Place.{Place, Doer, doer_of, thread_in, is_of_process, birth_by, birth_for}
@@ -25,14 +26,21 @@ use Rattle.gup_spec_turns.specs.Run.{RunState, op_in, waiting_with, waiting_in, 
 use Rattle.gup_spec_turns.specs.CoreTurn.{CoreTurn, answers_with}
 use Rattle.gup_spec_turns.proofs.TurnParts.{waits_at}
 use Rattle.gup_spec_turns.specs.Waits.{waits_born, first_waiting, waits_for_locks, no_lock}
-use Rattle.gup_spec_turns.specs.Turn.{failed_turn, turn_at, op_turn}
+use Rattle.gup_spec_turns.specs.TableTurns.{grown_by, grows_at, shrinks_by}
+use Rattle.gup_spec_turns.specs.Turn.{failed_turn, turn_at, op_turn, own_turn, unless_failed, grows_for, shrinks_for}
 use Rattle.gup_script.specs.Limits.{most_mirrors}
-use Rattle.gup_spec_turns.specs.Emptying.{invalidate, emptying}
+use Rattle.gup_spec_turns.specs.Emptying.{invalidate, left_in, emptying}
 use Rattle.gup_spec_turns.proofs.UnseenTurns.{IsNoLook, turn_unseen, waits_unseen}
-use Rattle.gup_law_base.specs.Sound.{IsSound}
+use Rattle.gup_law_base.specs.Sound.{View, IsSoundBy, IsSound}
+use Rattle.gup_law_tables.specs.Standing.{TablesStand, IsButForTables}
+use Rattle.gup_law_tables.proofs.TableRuns.{stand_run}
 use Rattle.gup_law_turns.specs.Slots.{EmptiesSlots}
 use Rattle.gup_law_turns.proofs.CountedFrames.{AreCountedThere}
-use Rattle.gup_law_turns.proofs.EmptiedTurns.{calmed, calmed_calm, calmed_sound, emptied_slots, emptied_taken, fits_with, silent_slots}
+use Rattle.gup_law_turns.proofs.EmptiedTurns.{calmed, calmed_calm, calmed_sound, emptied_slots, emptied_taken, fits_beside, fits_with, silent_slots}
+use Rattle.gup_law_turns.proofs.GrowingTurns.{unshaped, grown_shaped, grown_can, may_grow, Shrunk, none_shrunk, unfailed_shrunk, shrunk_by}
+use Rattle.gup_law_turns.proofs.TurnAsOwn.{own_by, unless_born, unless_lost}
+use Rattle.gup_law_turns.proofs.TableLists.{tables_only}
+use Rattle.gup_law_turns.proofs.TabledTurns.{Shaped, at_first as same_first, at_last as same_last, left_alike, sound_tabled, tabled_taken, tabled_slots}
 use Rattle.gup_law_turns.proofs.CalmStates.{failing_unborn}
 use Rattle.gup_law_turns.proofs.ForkFails.{unborn_empty}
 use Rattle.gup_law_turns.proofs.ForkOps.{IsEmptied, fork_turned, fork_emptied}
@@ -46,8 +54,8 @@ use Rattle.gup_law_turns.proofs.WalkOps.{pin_turned}
 use Rattle.gup_law_turns.proofs.Puts.{some_same}
 use Rattle.gup_law_turns.proofs.ReferenceOps.{get_turned, put_turned}
 use Rattle.gup_law_turns.proofs.ScriptLemmas.{FitsIn, op_is_op, op_fits_kind, thread_birth, few_slots, has_own_process, IsOfNoDevice}
-use Rattle.gup_law_turns.proofs.TurnShapes.{references_of, AtRest, AtFirst, FitsFork, FitsOp, FitsAt, Rests, IsOfProcess, TurnAt, idles, waits, goes, unborn_refused, unborn_fork, FitsMove, has_begun}
-use Rattle.gup_law_turns.proofs.StandingStates.{Stands, IsTaken}
+use Rattle.gup_law_turns.proofs.TurnShapes.{references_of, AtRest, AtFirst, FitsFork, FitsOp, FitsAt, Rests, IsOfProcess, TurnAt, idles, waits, goes, unborn_refused, unborn_fork, FitsMove, has_begun, child_of}
+use Rattle.gup_law_turns.proofs.StandingStates.{IsFew, Stands, IsTaken}
 use Rattle.gup_law_turns.proofs.ShownTurns.{IsOpen, IsQuiet, MakesPin, IsTurned, idle_place}
 
 -- whoever waits for neither of two doesn't wait for the first
@@ -285,6 +293,7 @@ record IsQuietly (s : CoreState) (a : ℕ) : Type 0 where
   slots : (m f : ℕ) → s.mirrored m ≡ Some f → m < most_mirrors
   there : AreCountedThere s
   rest : AtRest s a
+  tables : TablesStand s
 
 calmed_quiet : (s : CoreState) (a : ℕ) → IsQuietly s a → IsQuiet (calmed s) a
 calmed_quiet s a h =
@@ -369,21 +378,127 @@ look_takes s who place mirror word quiet h =
       slots = look_slots s who.actor mirror word;
     }
 
-op_taken : (s : CoreState) (who : Doer) (place : Place) (op : Op) → IsQuietly s who.actor → IsKnown s who place (Some op) → waiting_with s who place.far (Some op) ≡ None → IsTaken s who place (Some op) None (core_turn_by s who place.far (Some op) None)
-op_taken s who place (Mirror mirror proc page) quiet h is =
+own_taken : (s : CoreState) (who : Doer) (place : Place) (op : Op) → IsQuietly s who.actor → IsKnown s who place (Some op) → waiting_with s who place.far (Some op) ≡ None → IsTaken s who place (Some op) None (own_turn s who place.far op)
+own_taken s who place (Mirror mirror proc page) quiet h is =
     slots_step s who place (Mirror mirror proc page) quiet h (mirror_takes s who place mirror proc page quiet h) (birth_for s.birth who) refl is
-op_taken s who place (Look mirror word) quiet h is =
+own_taken s who place (Look mirror word) quiet h is =
     slots_step s who place (Look mirror word) quiet h (look_takes s who place mirror word quiet h) (birth_for s.birth who) refl is
-op_taken s who place op quiet h is =
+own_taken s who place op quiet h is =
     emptied_taken s who place op (bare_turn s who place op) (λ m fills. cc fills) quiet.slots (bare_taken s who place op quiet h tt is)
 
-op_slots : (s : CoreState) (who : Doer) (place : Place) (op : Op) → IsQuietly s who.actor → IsKnown s who place (Some op) → waiting_with s who place.far (Some op) ≡ None → EmptiesSlots s (Some op) (core_turn_by s who place.far (Some op) None)
-op_slots s who place (Mirror mirror proc page) quiet h is =
+own_slots : (s : CoreState) (who : Doer) (place : Place) (op : Op) → IsQuietly s who.actor → IsKnown s who place (Some op) → waiting_with s who place.far (Some op) ≡ None → EmptiesSlots s (Some op) (own_turn s who place.far op)
+own_slots s who place (Mirror mirror proc page) quiet h is =
     slots_kept s who place (Mirror mirror proc page) quiet h (mirror_takes s who place mirror proc page quiet h) (birth_for s.birth who) is
-op_slots s who place (Look mirror word) quiet h is =
+own_slots s who place (Look mirror word) quiet h is =
     slots_kept s who place (Look mirror word) quiet h (look_takes s who place mirror word quiet h) (birth_for s.birth who) is
-op_slots s who place op quiet h is =
+own_slots s who place op quiet h is =
     emptied_slots s who place op (bare_turn s who place op) (λ m fills. cc fills) quiet.slots (bare_taken s who place op quiet h tt is)
+
+-- ---- with the page tables that it adds and takes out
+
+quiet_tabled : (s t : CoreState) (a : ℕ) → IsButForTables s t → TablesStand t → IsQuietly s a → IsQuietly t a
+quiet_tabled s t a same stand h =
+    let x : CoreState = record s { free_table = t.free_table; place = t.place; retired = t.retired } in
+    let rest : AtRest x a = record { prepared = h.rest.prepared; owed = h.rest.owed } in
+    record {
+      sound = sound_tabled s t same h.sound;
+      slots = subst (λ (y : CoreState). (m f : ℕ) → y.mirrored m ≡ Some f → m < most_mirrors) (sym same) h.slots;
+      there = subst AreCountedThere (sym same) h.there;
+      rest = subst (λ (y : CoreState). AtRest y a) (sym same) rest;
+      tables = stand;
+    }
+
+known_tabled : (s t : CoreState) (who : Doer) (place : Place) (op : Option Op) → IsButForTables s t → IsKnown s who place op → IsKnown t who place op
+known_tabled s t who place op same h =
+    let x : CoreState = record s { free_table = t.free_table; place = t.place; retired = t.retired } in
+    let fits : FitsAt x who op place = fits_beside s.mirrored t.free_table t.place t.retired s who op place h.fits in
+    let known : IsKnown x who place op = assumption in
+    subst (λ (y : CoreState). IsKnown y who place op) (sym same) known
+
+waits_tabled : (s t : CoreState) → IsButForTables s t → (a p far : ℕ) (op : Op) → waits_born t a p far op ≡ waits_born s a p far op
+waits_tabled s t same a p far op = ap (λ (y : CoreState). waits_born y a p far op) same
+
+module _ (s : CoreState) (who : Doer) (place : Place) (op : Op) (quiet : IsQuietly s who.actor) (h : IsKnown s who place (Some op)) where
+  abbrev a : ℕ
+  a = who.actor
+
+  abbrev p : ℕ
+  p = who.proc
+
+  abbrev c : ℕ
+  c = child_of p (Some op)
+
+  -- what is in the middle of a turn that adds these tables, and takes those out
+  record IsBetween (growth : List CoreEvent) : Type 0 where
+    grown : Shaped a p c growth
+    can : AllCan s growth
+    shrunk : Shrunk (run (run s growth) (own_turn (run s growth) who place.far op).events) a p c (shrinks_for (run s growth) (run (run s growth) (own_turn (run s growth) who place.far op).events) who place.far op)
+    taken : IsTaken (run s growth) who place (Some op) None (own_turn (run s growth) who place.far op)
+    slots : EmptiesSlots (run s growth) (Some op) (own_turn (run s growth) who place.far op)
+
+  abbrev growth_at : List CoreEvent
+  growth_at = grows_at s a (grown_by s a p place.far op)
+
+  -- of a born process, or of a device
+  born_between : birth_for s.birth who ≡ born → waits_born s a p place.far op ≡ None → IsBetween growth_at
+  born_between birth free =
+      let own = own_birth s who place op h birth in
+      let may = may_grow s who place quiet.sound op own h.fits free in
+      let grown : Shaped a p c growth_at = grown_shaped s a p c (grown_by s a p place.far op) may in
+      let can = grown_can s a p c (grown_by s a p place.far op) quiet.sound quiet.tables may in
+      let t : CoreState = run s growth_at in
+      let same : IsButForTables s t = tables_only s a grown.proc growth_at grown.are in
+      let quiet_t = quiet_tabled s t a same (stand_run s growth_at quiet.tables can) quiet in
+      let known_t = known_tabled s t who place (Some op) same h in
+      let birth_t : birth_for t.birth who ≡ born = ap (λ (y : CoreState). birth_for y.birth who) same ∙ birth in
+      let free_t : waits_born t a p place.far op ≡ None = waits_tabled s t same a p place.far op ∙ free in
+      let waits_t : waiting_with t who place.far (Some op) ≡ None = rw birth_t free_t in
+      let shrunk_t : Shrunk (run t (own_turn t who place.far op).events) a p c (shrinks_by t (run t (own_turn t who place.far op).events) a p place.far op) =
+      subst (λ (b : Birth). let u : CoreState = run t (emptying t a (turn_at b (failed_turn a p op) (op_turn t a p who.slots place.far op))).events in Shrunk u a p c (shrinks_by t u a p place.far op)) (sym birth_t)
+      (shrunk_by t who place who.slots quiet_t.sound op (own_birth t who place op known_t birth_t) known_t.fits free_t) in
+      record {
+        grown = grown;
+        can = can;
+        shrunk = unfailed_shrunk (run t (own_turn t who place.far op).events) a p c (shrinks_by t (run t (own_turn t who place.far op).events) a p place.far op) (birth_for t.birth who) shrunk_t;
+        taken = own_taken t who place op quiet_t known_t waits_t;
+        slots = own_slots t who place op quiet_t known_t waits_t;
+      }
+
+  -- of a failed process: it changes no tables
+  lost_between : birth_for s.birth who ≡ failed → waiting_with s who place.far (Some op) ≡ None → IsBetween []
+  lost_between lost is = record {
+    grown = unshaped a p c;
+    can = tt;
+    shrunk = subst (Shrunk (run s (own_turn s who place.far op).events) a p c)
+        (sym (ap (unless_failed (shrinks_by s (run s (own_turn s who place.far op).events) a p place.far op)) lost ∙ unless_lost (shrinks_by s (run s (own_turn s who place.far op).events) a p place.far op)))
+        (none_shrunk (run s (own_turn s who place.far op).events) a p c);
+    taken = own_taken s who place op quiet h is;
+    slots = own_slots s who place op quiet h is;
+  }
+
+  between_by : (birth : Birth) → birth_for s.birth who ≡ birth → waits_at birth p (waits_born s a p place.far op) ≡ None → waiting_with s who place.far (Some op) ≡ None → IsBetween (unless_failed growth_at birth)
+  between_by born is free whole = subst IsBetween (sym (unless_born growth_at)) (born_between is free)
+  between_by failed is free whole = subst IsBetween (sym (unless_lost growth_at)) (lost_between is whole)
+  between_by birth is free whole = absurd (cc free)
+
+  between : waiting_with s who place.far (Some op) ≡ None → IsBetween (grows_for s who place.far op)
+  between is = between_by (birth_for s.birth who) refl is is
+
+op_taken : (s : CoreState) (who : Doer) (place : Place) (op : Op) → IsQuietly s who.actor → IsKnown s who place (Some op) → waiting_with s who place.far (Some op) ≡ None → IsTaken s who place (Some op) None (core_turn_by s who place.far (Some op) None)
+op_taken s who place op quiet h is =
+    let growth : List CoreEvent = grows_for s who place.far op in
+    let at = between s who place op quiet h is in
+    let t : CoreState = run s growth in
+    let turn : CoreTurn = own_turn t who place.far op in
+    tabled_taken s who place op growth turn (shrinks_for t (run t turn.events) who place.far op) at.grown at.shrunk.shaped at.can at.shrunk.can at.taken
+
+op_slots : (s : CoreState) (who : Doer) (place : Place) (op : Op) → IsQuietly s who.actor → IsKnown s who place (Some op) → waiting_with s who place.far (Some op) ≡ None → EmptiesSlots s (Some op) (core_turn_by s who place.far (Some op) None)
+op_slots s who place op quiet h is =
+    let growth : List CoreEvent = grows_for s who place.far op in
+    let at = between s who place op quiet h is in
+    let t : CoreState = run s growth in
+    let turn : CoreTurn = own_turn t who place.far op in
+    tabled_slots s who place op growth turn (shrinks_for t (run t turn.events) who place.far op) at.grown at.shrunk.shaped at.slots
 
 take : (s : CoreState) (who : Doer) (place : Place) (op : Option Op) (waiting : Option Waiting) → IsQuietly s who.actor → IsKnown s who place op → waiting_with s who place.far op ≡ waiting → IsTaken s who place op waiting (core_turn_by s who place.far op waiting)
 take s who place None waiting quiet h is =
@@ -412,7 +527,7 @@ take_slots s who place (Some op) None quiet h is = op_slots s who place op quiet
 
 -- what is known of the turn of an actor
 is_quietly : (script : ScriptValue) (r : RunState) → Stands script r → (a : ℕ) → IsQuietly r.core a
-is_quietly script r h a = record { sound = h.sound; slots = h.slots; there = h.there; rest = h.rest a }
+is_quietly script r h a = record { sound = h.sound; slots = h.slots; there = h.there; rest = h.rest a; tables = h.tables }
 
 is_known : (script : ScriptValue) → IsScript script → (r : RunState) → Stands script r → (a : ℕ) → IsKnown r.core (doer_of script a (op_in script r a)) (r.places a) (op_in script r a)
 is_known script valid r h a =
@@ -440,3 +555,90 @@ pub slots_left : (script : ScriptValue) → IsScript script → (r : RunState) �
 slots_left script valid r h a =
     take_slots r.core (doer_of script a (op_in script r a)) (r.places a) (op_in script r a) (waiting_in script r a)
     (is_quietly script r h a) (is_known script valid r h a) refl
+
+-- ---- the turn of an actor but for page tables
+
+abbrev pub own_in : ScriptValue → RunState → ℕ → CoreTurn
+own_in script r a =
+    own_by r.core (doer_of script a (op_in script r a)) (r.places a).far (op_in script r a) (waiting_in script r a)
+
+own_take : (s : CoreState) (who : Doer) (place : Place) (op : Option Op) (waiting : Option Waiting) → IsQuietly s who.actor → IsKnown s who place op → waiting_with s who place.far op ≡ waiting → IsTaken s who place op waiting (own_by s who place.far op waiting)
+own_take s who place None waiting quiet h is = take s who place None waiting quiet h is
+own_take s who place (Some op) (Some waiting) quiet h is = take s who place (Some op) (Some waiting) quiet h is
+own_take s who place (Some op) None quiet h is = own_taken s who place op quiet h is
+
+pub own_taken_in : (script : ScriptValue) → IsScript script → (r : RunState) → Stands script r → (a : ℕ) → IsTaken r.core (doer_of script a (op_in script r a)) (r.places a) (op_in script r a) (waiting_in script r a) (own_in script r a)
+own_taken_in script valid r h a =
+    own_take r.core (doer_of script a (op_in script r a)) (r.places a) (op_in script r a) (waiting_in script r a)
+    (is_quietly script r h a) (is_known script valid r h a) refl
+
+-- A state in which the turn is the operation's own, but for tables: with other tables than before the turn, and with what that leads to.
+pub record IsMiddle (s t : CoreState) (who : Doer) (far : ℕ) (op : Option Op) (waiting : Option Waiting) : Type 0 where
+  pub before : IsButForTables s t
+  pub stand : TablesStand t
+  pub whats : (core_turn_by s who far op waiting).whats ≡ (own_by t who far op waiting).whats
+  pub after : IsButForTables (run t (own_by t who far op waiting).events) (run s (core_turn_by s who far op waiting).events)
+  pub left : (frame : Option ℕ) (noted : Option Noted) → left_in (core_turn_by s who far op waiting).events frame noted ≡ left_in (own_by t who far op waiting).events frame noted
+
+pub record Middle (s : CoreState) (who : Doer) (far : ℕ) (op : Option Op) (waiting : Option Waiting) : Type 0 where
+  pub state : CoreState
+  pub is : IsMiddle s state who far op waiting
+
+same_middle : (s : CoreState) (who : Doer) (far : ℕ) (op : Option Op) (waiting : Option Waiting) → TablesStand s → core_turn_by s who far op waiting ≡ own_by s who far op waiting → Middle s who far op waiting
+same_middle s who far op waiting stand same =
+    record {
+      state = s;
+      is = record {
+        before = refl;
+        stand = stand;
+        whats = ap (λ (turn : CoreTurn). turn.whats) same;
+        after = subst (λ (turn : CoreTurn). IsButForTables (run s turn.events) (run s (core_turn_by s who far op waiting).events)) same refl;
+        left = λ frame noted. ap (λ (turn : CoreTurn). left_in turn.events frame noted) same;
+      };
+    }
+
+middle_by : (s : CoreState) (who : Doer) (place : Place) (op : Option Op) (waiting : Option Waiting) → IsQuietly s who.actor → IsKnown s who place op → waiting_with s who place.far op ≡ waiting → Middle s who place.far op waiting
+middle_by s who place None waiting quiet h is = same_middle s who place.far None waiting quiet.tables refl
+middle_by s who place (Some op) (Some waiting) quiet h is = same_middle s who place.far (Some op) (Some waiting) quiet.tables refl
+middle_by s who place (Some op) None quiet h is =
+    let growth : List CoreEvent = grows_for s who place.far op in
+    let at = between s who place op quiet h is in
+    let t : CoreState = run s growth in
+    let turn : CoreTurn = own_turn t who place.far op in
+    let shrinks : List CoreEvent = shrinks_for t (run t turn.events) who place.far op in
+    record {
+      state = t;
+      is = record {
+        before = same_first s who.actor at.grown.proc at.shrunk.shaped.proc growth turn shrinks at.grown.are at.shrunk.shaped.are;
+        stand = stand_run s growth quiet.tables at.can;
+        whats = refl;
+        after = same_last s who.actor at.grown.proc at.shrunk.shaped.proc growth turn shrinks at.grown.are at.shrunk.shaped.are;
+        left = left_alike s who.actor at.grown.proc at.shrunk.shaped.proc growth turn shrinks at.grown.are at.shrunk.shaped.are;
+      };
+    }
+
+pub middle_in : (script : ScriptValue) → IsScript script → (r : RunState) → Stands script r → (a : ℕ) → Middle r.core (doer_of script a (op_in script r a)) (r.places a).far (op_in script r a) (waiting_in script r a)
+middle_in script valid r h a =
+    middle_by r.core (doer_of script a (op_in script r a)) (r.places a) (op_in script r a) (waiting_in script r a)
+    (is_quietly script r h a) (is_known script valid r h a) refl
+
+-- whoever waits for something waits for the same whatever tables there are
+pub same_waiting : (script : ScriptValue) (r : RunState) (t : CoreState) (a : ℕ) → IsButForTables r.core t → waiting_in script (record r { core = t }) a ≡ waiting_in script r a
+same_waiting script r t a same = ap (λ (x : CoreState). waiting_in script (record r { core = x }) a) same
+
+-- and what stands between two turns stands
+pub stands_tabled : (script : ScriptValue) (r : RunState) (t : CoreState) → IsButForTables r.core t → TablesStand t → Stands script r → Stands script (record r { core = t })
+stands_tabled script r t same stand h =
+    let s : CoreState = r.core in
+    let x : CoreState = record s { free_table = t.free_table; place = t.place; retired = t.retired } in
+    let q : RunState = record r { core = x } in
+    let v : View = h.sound.0 in
+    let sound_by : IsSoundBy v x = (let all = h.sound.1 in assumption) in
+    let sound : IsSound x = (v, sound_by) in
+    let tables : TablesStand x = stand in
+    let rest : (a : ℕ) → AtRest x a = λ a. let at = h.rest a in record { prepared = at.prepared; owed = at.owed } in
+    let few : IsFew (length script.processes) x = (let now = h.few in record { mapped = now.mapped; pages = now.pages; forked = now.forked }) in
+    let fits : (a : ℕ) → FitsAt x (doer_of script a (op_in script r a)) (op_in script r a) (r.places a) =
+    λ a. fits_beside s.mirrored t.free_table t.place t.retired s (doer_of script a (op_in script r a)) (op_in script r a) (r.places a) (h.fits a) in
+    let now : Stands script q = assumption in
+    subst (λ (y : CoreState). Stands script (record r { core = y })) (sym same) now

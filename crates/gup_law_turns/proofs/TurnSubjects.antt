@@ -1,5 +1,5 @@
 -- What a turn is about: a process, or a handle, or nothing; and how far the actor is after it.
-use Rattle.std.proofs.Common.{◌≡◌, ℕ, ◌+◌, ◌<◌, ◌≤◌, ◌==◌, Bool, true, false, IsTrue, List, [], Option, Some, None, ◌⊎◌, inl, inr, refl, sym, ap, subst, arith}
+use Rattle.std.proofs.Common.{◌≡◌, ℕ, ◌+◌, ◌<◌, ◌≤◌, ◌==◌, Bool, true, false, IsTrue, List, [], Option, Some, None, ◌⊎◌, inl, inr, refl, sym, ap, subst, arith, ◌∙◌}
 use Rattle.gup_base.specs.Parts.{words_of, word_at}
 use Rattle.gup_plain.specs.Denial.{is_held_by, transfer_denial}
 use Rattle.gup_plain.specs.State.{PlainState, Birth, born, failed}
@@ -17,11 +17,11 @@ use Rattle.gup_spec_journal.specs.Place.{Place, Doer, place_behind, birth_for}
 use Rattle.gup_spec_turns.specs.JobPlace.{JobPlace}
 use Rattle.gup_spec_turns.specs.Run.{core_turn_by}
 use Rattle.gup_spec_turns.specs.CoreTurn.{CoreTurn}
-use Rattle.gup_spec_turns.specs.Turn.{turn_at, failed_turn, op_turn}
-use Rattle.gup_spec_turns.specs.PinTurns.{unpin_turn, last_of, but_last, give_turn, take_turn}
+use Rattle.gup_spec_turns.specs.Turn.{turn_at, failed_turn, op_turn, own_turn}
+use Rattle.gup_spec_turns.specs.PinTurns.{last_of, but_last}
 use Rattle.gup_spec_turns.proofs.TurnParts.{unpin_turn_by, give_turn_by, transfer_turn_by}
 use Rattle.gup_spec_turns.specs.MirrorTurns.{look_turn}
-use Rattle.gup_spec_turns.specs.DeviceTurns.{transfer_turn, word_turn, frame_at, moves_value}
+use Rattle.gup_spec_turns.specs.DeviceTurns.{word_turn, frame_at, moves_value}
 use Rattle.gup_spec_turns.specs.Emptying.{emptying}
 use Rattle.gup_spec_turns.proofs.Unseen.{emptying_reads}
 use Rattle.gup_law_turns.proofs.EmptiedSlots.{about_emptying}
@@ -30,6 +30,7 @@ use Rattle.gup_law_turns.proofs.ActorPlaces.{IsBehind, goes_on, is_over, IsBehin
 use Rattle.gup_law_turns.proofs.ScriptPlaces.{fresh_place}
 use Rattle.gup_law_turns.proofs.TurnShapes.{references_of, IsOfProcess, TurnAt, idles, waits, goes, unborn_refused, unborn_fork}
 use Rattle.gup_law_turns.proofs.StandingStates.{IsAhead}
+use Rattle.gup_law_turns.proofs.TurnAsOwn.{own_by, ChangesNoTables, idle_own, lost_own}
 
 -- what is ahead at the first turn of the next operation, or in the middle of the present one, is after the present one
 ahead_next : (n k : ℕ) → IsAhead (fresh_place (n + 1)) k → n < k
@@ -92,45 +93,60 @@ about_by a h failed refused turn none about = subst (AreHandleEvents a h) (sym n
 about_by a h birth refused turn none about = about
 
 -- and the slots that it empties are none
-about_at : (s : CoreState) (who : Doer) (h : ℕ) (birth : Birth) (refused turn : CoreTurn) → refused.events ≡ [] → AreHandleEvents who.actor h turn.events → AreHandleEvents who.actor h (emptying s who.actor (turn_at birth refused turn)).events
-about_at s who h birth refused turn none about =
-    about_emptying s who.actor h (turn_at birth refused turn) (about_by who.actor h birth refused turn none about)
+about_at : (s : CoreState) (who : Doer) (h far : ℕ) (op : Op) → (failed_turn who.actor who.proc op).events ≡ [] → AreHandleEvents who.actor h (op_turn s who.actor who.proc who.slots far op).events → AreHandleEvents who.actor h (own_turn s who far op).events
+about_at s who h far op none about =
+    let refused : CoreTurn = failed_turn who.actor who.proc op in
+    let turn : CoreTurn = op_turn s who.actor who.proc who.slots far op in
+    about_emptying s who.actor h (turn_at (birth_for s.birth who) refused turn) (about_by who.actor h (birth_for s.birth who) refused turn none about)
 
 abbrev IsTurnGoing : CoreState → Doer → Place → CoreTurn → List What → Type 0
 IsTurnGoing s who place turn whats =
     IsAboutHandle who.actor turn.events ⊎ IsGoing place who.proc s (run s turn.events) whats
 
-going_by : {place : Place} {whats : List What} (s : CoreState) (who : Doer) (far : ℕ) (op : Op) → (IsOfProcess op → s.birth who.proc ≡ born) → ((k : ℕ) → IsAhead (place_behind place whats) k → place.answered < k) → IsTurnGoing s who place (core_turn_by s who far (Some op) None) whats
-going_by s who far (Unpin handle) own later =
+own_going_by : {place : Place} {whats : List What} (s : CoreState) (who : Doer) (far : ℕ) (op : Op) → (IsOfProcess op → s.birth who.proc ≡ born) → ((k : ℕ) → IsAhead (place_behind place whats) k → place.answered < k) → IsTurnGoing s who place (own_turn s who far op) whats
+own_going_by s who far (Unpin handle) own later =
     inl (
       handle,
-      about_at s who handle (birth_for s.birth who) (failed_turn who.actor who.proc (Unpin handle)) (unpin_turn s who.actor handle) refl
+      about_at s who handle far (Unpin handle) refl
           (about_unpin who.actor handle (is_held_by (s.handle handle) who.actor) (s.pinned handle)),
     )
-going_by s who far (Give handle to) own later =
+own_going_by s who far (Give handle to) own later =
     inl (
       handle,
-      about_at s who handle (birth_for s.birth who) (failed_turn who.actor who.proc (Give handle to)) (give_turn s who.actor handle to) refl
+      about_at s who handle far (Give handle to) refl
           (about_give who.actor handle to (is_held_by (s.handle handle) who.actor)),
     )
-going_by s who far (Take handle) own later =
+own_going_by s who far (Take handle) own later =
     inl (
       handle,
-      about_at s who handle (birth_for s.birth who) (failed_turn who.actor who.proc (Take handle)) (take_turn who.actor handle) refl
+      about_at s who handle far (Take handle) refl
           (taking_over, tt),
     )
-going_by s who far (Transfer handle outward slot parts) own later =
+own_going_by s who far (Transfer handle outward slot parts) own later =
     inl (
       handle,
-      about_at s who handle (birth_for s.birth who) (failed_turn who.actor who.proc (Transfer handle outward slot parts)) (transfer_turn s who.actor who.slots handle outward slot parts far) refl
+      about_at s who handle far (Transfer handle outward slot parts) refl
           (about_transfer (transfer_denial (s.handle handle) who.actor outward who.slots slot parts) s who.actor handle outward (far + 1 == words_of parts) (word_at parts far) (slot + far)),
     )
-going_by s who far (Look mirror word) own later =
+own_going_by s who far (Look mirror word) own later =
     inl (
       0,
-      about_at s who 0 (birth_for s.birth who) (failed_turn who.actor who.proc (Look mirror word)) (look_turn s who.actor mirror word (s.mirrored mirror)) refl
+      about_at s who 0 far (Look mirror word) refl
           (about_look s who.actor mirror word (s.mirrored mirror)),
     )
+own_going_by s who far op own later = inr (record { birth = inl (own tt); later = later })
+
+-- and so it is with the tables that the turn changes
+going_idle : {place : Place} {whats : List What} (s : CoreState) (who : Doer) (far : ℕ) (op : Op) → ChangesNoTables op → (IsOfProcess op → s.birth who.proc ≡ born) → ((k : ℕ) → IsAhead (place_behind place whats) k → place.answered < k) → IsTurnGoing s who place (core_turn_by s who far (Some op) None) whats
+going_idle {place = place} {whats = whats} s who far op none own later =
+    subst (λ (turn : CoreTurn). IsTurnGoing s who place turn whats) (sym (idle_own s who far op none)) (own_going_by {place = place} {whats = whats} s who far op own later)
+
+going_by : {place : Place} {whats : List What} (s : CoreState) (who : Doer) (far : ℕ) (op : Op) → (IsOfProcess op → s.birth who.proc ≡ born) → ((k : ℕ) → IsAhead (place_behind place whats) k → place.answered < k) → IsTurnGoing s who place (core_turn_by s who far (Some op) None) whats
+going_by {place = place} {whats = whats} s who far (Unpin handle) own later = going_idle {place = place} {whats = whats} s who far (Unpin handle) tt own later
+going_by {place = place} {whats = whats} s who far (Give handle to) own later = going_idle {place = place} {whats = whats} s who far (Give handle to) tt own later
+going_by {place = place} {whats = whats} s who far (Take handle) own later = going_idle {place = place} {whats = whats} s who far (Take handle) tt own later
+going_by {place = place} {whats = whats} s who far (Transfer handle outward slot parts) own later = going_idle {place = place} {whats = whats} s who far (Transfer handle outward slot parts) tt own later
+going_by {place = place} {whats = whats} s who far (Look mirror word) own later = going_idle {place = place} {whats = whats} s who far (Look mirror word) tt own later
 going_by s who far op own later = inr (record { birth = inl (own tt); later = later })
 
 -- a thread of a failed process refuses its operation without an event, but a fork
@@ -138,9 +154,12 @@ unborn_silent : (a p : ℕ) (op : Op) → IsTrue (refuses op answers.Unborn) →
 unborn_silent a p (Fork child) refusal = absurd (cc refusal)
 unborn_silent a p op refusal = refl
 
-failed_taken : (s : CoreState) (who : Doer) (far : ℕ) (op : Op) → birth_for s.birth who ≡ failed → emptying s who.actor (failed_turn who.actor who.proc op) ≡ core_turn_by s who far (Some op) None
-failed_taken s who far op birth =
+failed_own : (s : CoreState) (who : Doer) (far : ℕ) (op : Op) → birth_for s.birth who ≡ failed → emptying s who.actor (failed_turn who.actor who.proc op) ≡ own_turn s who far op
+failed_own s who far op birth =
     ap (λ (b : Birth). emptying s who.actor (turn_at b (failed_turn who.actor who.proc op) (op_turn s who.actor who.proc who.slots far op))) (sym birth)
+
+failed_taken : (s : CoreState) (who : Doer) (far : ℕ) (op : Op) → birth_for s.birth who ≡ failed → emptying s who.actor (failed_turn who.actor who.proc op) ≡ core_turn_by s who far (Some op) None
+failed_taken s who far op birth = failed_own s who far op birth ∙ sym (lost_own s who far op birth)
 
 pub still_or_going : {place : Place} {from to : JobPlace} {whats : List What} {op : Option Op} {waiting : Option Waiting} (s : CoreState) (who : Doer) (far : ℕ) → TurnAt (plain_of s) (references_of s) who place op waiting from whats to → IsTurnGoing s who place (core_turn_by s who far op waiting) whats
 still_or_going s who far (idles waiting at) = inl (0, tt)
@@ -151,6 +170,18 @@ still_or_going s who far (unborn_refused op birth first refusal) =
     inl (0, subst (λ (turn : CoreTurn). AreHandleEvents who.actor 0 turn.events) (failed_taken s who far op birth) (about_emptying s who.actor 0 (failed_turn who.actor who.proc op) silent))
 still_or_going {place = place} s who far (unborn_fork child birth own first) =
     let kept : (run s (core_turn_by s who far (Some (Fork child)) None).events).entry who.proc ≡ s.entry who.proc = subst (λ (turn : CoreTurn). (run s turn.events).entry who.proc ≡ s.entry who.proc) (failed_taken s who far (Fork child) birth) (emptying_reads (λ t. t.entry who.proc) (λ f t. refl) s who.actor (failed_turn who.actor who.proc (Fork child))) in
+    inr (record { birth = inr (own, kept); later = λ k ahead. ahead_next place.answered k ahead })
+
+-- the same of the turn but for page tables
+pub still_or_going_own : {place : Place} {from to : JobPlace} {whats : List What} {op : Option Op} {waiting : Option Waiting} (s : CoreState) (who : Doer) (far : ℕ) → TurnAt (plain_of s) (references_of s) who place op waiting from whats to → IsTurnGoing s who place (own_by s who far op waiting) whats
+still_or_going_own s who far (idles waiting at) = inl (0, tt)
+still_or_going_own s who far (waits op waiting at) = inl (0, tt)
+still_or_going_own s who far (goes op whats from to birth own turn) = own_going_by s who far op own (ahead_on (op_behind s (Some op) turn))
+still_or_going_own s who far (unborn_refused op birth first refusal) =
+    let silent : AreHandleEvents who.actor 0 (failed_turn who.actor who.proc op).events = subst (AreHandleEvents who.actor 0) (sym (unborn_silent who.actor who.proc op refusal)) tt in
+    inl (0, subst (λ (turn : CoreTurn). AreHandleEvents who.actor 0 turn.events) (failed_own s who far op birth) (about_emptying s who.actor 0 (failed_turn who.actor who.proc op) silent))
+still_or_going_own {place = place} s who far (unborn_fork child birth own first) =
+    let kept : (run s (own_turn s who far (Fork child)).events).entry who.proc ≡ s.entry who.proc = subst (λ (turn : CoreTurn). (run s turn.events).entry who.proc ≡ s.entry who.proc) (failed_own s who far (Fork child) birth) (emptying_reads (λ t. t.entry who.proc) (λ f t. refl) s who.actor (failed_turn who.actor who.proc (Fork child))) in
     inr (record { birth = inr (own, kept); later = λ k ahead. ahead_next place.answered k ahead })
 
 -- only an actor that waits for no birth comes into the middle of an operation

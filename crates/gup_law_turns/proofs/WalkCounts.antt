@@ -1,5 +1,5 @@
 -- How many walks run in a process: no more than there are actors, and one where an actor's job is one.
-use Rattle.std.proofs.Common.{◌≡◌, ℕ, ◌+◌, ◌≤◌, ◌<◌, Bool, List, [], ◌∷◌, length, Contains, Option, Some, None, refl, sym, ap, ◌∙◌, subst, arith}
+use Rattle.std.proofs.Common.{◌≡◌, ℕ, ◌≤◌, ◌<◌, Bool, List, [], ◌∷◌, length, Contains, Option, Some, None, refl, sym, ap, ◌∙◌, subst, arith}
 use Rattle.gup_law_base.proofs.Holders.{no_element}
 use Rattle.gup_script.specs.declared.op.Op.{Op}
 use Rattle.gup_spec_events.specs.State.{CoreState, Job, idle, walking, WalkStep}

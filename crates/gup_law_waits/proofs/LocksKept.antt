@@ -25,7 +25,7 @@ use Rattle.gup_spec_turns.specs.CoreTurn.{CoreTurn, answers_with, allows_store, 
 use Rattle.gup_spec_turns.specs.JobPlace.{job_place, place_in, unbegun, from_page}
 use Rattle.gup_spec_turns.specs.MoveTurns.{place_turn, counted_turn, move_turn}
 use Rattle.gup_spec_turns.specs.ForkTurns.{next_page, page_turn, next_turn, share_turn, frame_turn, copy_turn, copying_turn, fork_turn}
-use Rattle.gup_spec_turns.specs.Run.{RunState, op_in, waiting_with, waiting_in, core_turn_by, core_turn_in}
+use Rattle.gup_spec_turns.specs.Run.{RunState, op_in, waiting_with, waiting_in, core_turn_in}
 use Rattle.gup_spec_turns.specs.Turn.{turn_at, failed_turn, op_turn}
 use Rattle.gup_spec_turns.proofs.TurnParts.{clear_turn_by, waits_at}
 use Rattle.gup_spec_turns.specs.Emptying.{emptying}
@@ -42,12 +42,14 @@ use Rattle.gup_law_turns.proofs.Puts.{put_same, some_same}
 use Rattle.gup_law_turns.proofs.ShownTurns.{idle_place}
 use Rattle.gup_law_turns.proofs.StandingStates.{Stands, IsTaken}
 use Rattle.gup_law_turns.proofs.TurnShapes.{FitsMove, FitsFork, FitsAt, child_of, strand_of}
-use Rattle.gup_law_turns.proofs.TurnSteps.{taken}
-use Rattle.gup_law_turns.proofs.TurnSubjects.{still_or_going}
+use Rattle.gup_law_turns.proofs.TurnSteps.{own_in, own_taken_in, Middle, middle_in, same_waiting, stands_tabled}
+use Rattle.gup_law_turns.proofs.TurnSubjects.{still_or_going_own}
 use Rattle.gup_law_journal.proofs.LockHolders.{fork_keeps}
 use Rattle.gup_law_waits.specs.Woken.{nobody, everybody, wakes}
 use Rattle.gup_law_waits.proofs.WalksKept.{KeepsEntries, begins_keep, walk_keeps, needs_both}
 use Rattle.gup_law_waits.proofs.PlainWaits.{answers_it, over_unbegun}
+use Rattle.gup_law_tables.specs.Standing.{IsButForTables}
+use Rattle.gup_law_turns.proofs.TurnAsOwn.{own_by}
 
 -- The structure lock of process q stays with actor c, and no page of q gets an entry, nor one that allows a store.
 pub record KeepsOut (s t : CoreState) (q c : ℕ) : Type 0 where
@@ -288,17 +290,18 @@ module _ (law : Law) (script : ScriptValue) (valid : IsScript script) (r : RunSt
   abbrev c : ℕ
   c = child_of p op
 
+  -- the turn but for page tables
   abbrev turn : CoreTurn
-  turn = core_turn_in script r a
+  turn = own_in script r a
 
   abbrev t : CoreState
   t = run s turn.events
 
   turns : IsTaken s who place op (waiting_in script r a) turn
-  turns = taken script valid r h a
+  turns = own_taken_in script valid r h a
 
   -- the turn wakes nobody who waits for a lock
-  abbrev pub IsStill : Type 0
+  abbrev IsStill : Type 0
   IsStill = wakes op (place_in t a) ≡ everybody → ⊥
 
   -- The slots that a turn empties first change nothing of all this.
@@ -317,13 +320,13 @@ module _ (law : Law) (script : ScriptValue) (valid : IsScript script) (r : RunSt
   turn_is : (P : CoreTurn → Type 0) (o : Op) → op ≡ Some o → ((u : CoreTurn) → P u → P (emptying s a u)) → ((u : CoreTurn) → u.events ≡ [] → P u) → ((b : Birth) → birth_for s.birth (doer_of script a (Some o)) ≡ b → P (turn_at b (failed_turn a (doer_of script a (Some o)).proc o) (op_turn s a (doer_of script a (Some o)).proc (doer_of script a (Some o)).slots place.far o))) → P turn
   turn_is P o is unseen none by_birth = go (waiting_in script r a) refl
     where
-      same : (w : Option Waiting) → waiting_in script r a ≡ w → P (core_turn_by s (doer_of script a (Some o)) place.far (Some o) w) → P turn
+      same : (w : Option Waiting) → waiting_in script r a ≡ w → P (own_by s (doer_of script a (Some o)) place.far (Some o) w) → P turn
       same w waits there =
-          subst (λ (v : Option Waiting). P (core_turn_by s who place.far op v)) (sym waits)
-          (subst (λ (x : Option Op). P (core_turn_by s (doer_of script a x) place.far x w)) (sym is) there)
+          subst (λ (v : Option Waiting). P (own_by s who place.far op v)) (sym waits)
+          (subst (λ (x : Option Op). P (own_by s (doer_of script a x) place.far x w)) (sym is) there)
 
       go : (w : Option Waiting) → waiting_in script r a ≡ w → P turn
-      go (Some w) waits = same (Some w) waits (none (core_turn_by s (doer_of script a (Some o)) place.far (Some o) (Some w)) refl)
+      go (Some w) waits = same (Some w) waits (none (own_by s (doer_of script a (Some o)) place.far (Some o) (Some w)) refl)
       go None waits =
           let who : Doer = doer_of script a (Some o) in
           let b : Birth = birth_for s.birth who in
@@ -331,9 +334,9 @@ module _ (law : Law) (script : ScriptValue) (valid : IsScript script) (r : RunSt
 
   -- A fork of actor d keeps the structure lock of process q: the turn of another actor gives no page of it an entry, nor one that
   -- allows a store, unless it wakes whoever waits.
-  pub others_keep : IsStill → (d q : ℕ) → (d ≡ a → ⊥) → s.structure q ≡ Some d → KeepsOut s t q d
-  others_keep still d q other locked =
-      elim (still_or_going s who place.far turns.shape) [
+  others_keep_own : IsStill → (d q : ℕ) → (d ≡ a → ⊥) → s.structure q ≡ Some d → KeepsOut s t q d
+  others_keep_own still d q other locked =
+      elim (still_or_going_own s who place.far turns.shape) [
         | inl about ↦ unchanged ((handles_leave s a about.0 turn.events about.1).process q)
         | inr moves ↦ by_process (same_or_apart q p)
       ]
@@ -387,8 +390,8 @@ module _ (law : Law) (script : ScriptValue) (valid : IsScript script) (r : RunSt
           by_lock : (needed : Bool) → (pin_locks fast place.far (s.job a)).structure ≡ needed → KeepsOut s t k d
           by_lock true needed =
               let none : turn.events ≡ [] =
-              ap (λ (w : Option Waiting). (core_turn_by s who place.far op w).events) (waits needed)
-              ∙ ap (λ (o : Option Op). (core_turn_by s (doer_of script a o) place.far o (Some (waitings.Holder d))).events) is in
+              ap (λ (w : Option Waiting). (own_by s who place.far op w).events) (waits needed)
+              ∙ ap (λ (o : Option Op). (own_by s (doer_of script a o) place.far o (Some (waitings.Holder d))).events) is in
               subst (λ (es : List CoreEvent). KeepsOut s (run s es) k d) (sym none) (same_keeps s s k d here refl)
           by_lock false needed =
               turn_is (λ (u : CoreTurn). KeepsOut s (run s u.events) k d) (Pin handle page n want fast) is (out_emptied k d)
@@ -425,8 +428,8 @@ module _ (law : Law) (script : ScriptValue) (valid : IsScript script) (r : RunSt
         turn_is P (Fork child) forks unseen none
         (λ b is. subst (λ (x : Birth). P (turn_at x (failed_turn a mine (Fork child)) (fork_turn s a mine child (s.job a)))) (sym born_now ∙ is) goes)
 
-    pub own_keeps : s.birth mine ≡ born → s.structure mine ≡ Some a → (answers_it turn.whats ≡ true → ⊥) → KeepsOut s t mine a
-    own_keeps lives locked never =
+    own_keeps_own : s.birth mine ≡ born → s.structure mine ≡ Some a → (answers_it turn.whats ≡ true → ⊥) → KeepsOut s t mine a
+    own_keeps_own lives locked never =
         fork_now (λ (u : CoreTurn). (answers_it u.whats ≡ true → ⊥) → KeepsOut s (run s u.events) mine a)
         (λ u kept over. out_emptied mine a u (kept over)) (λ u none over. subst (λ (es : List CoreEvent). KeepsOut s (run s es) mine a) (sym none) (same_keeps s s mine a locked refl))
         (λ over. fork_left s a mine child place (s.job a) (s.prepared a) fits_now far lives over) never
@@ -514,8 +517,8 @@ module _ (law : Law) (script : ScriptValue) (valid : IsScript script) (r : RunSt
     pin_pages handle page n want fast k got (walking u write long sequence step) keeps at still = absurd (cc keeps)
     pin_pages handle page n want fast k got job keeps at still = absurd at
 
-  pub table_keeps : IsStill → (q : ℕ) → s.table q ≡ Some a → KeepsPages q s t
-  table_keeps still q locked = go op refl (has_here op refl)
+  table_keeps_own : IsStill → (q : ℕ) → s.table q ≡ Some a → KeepsPages q s t
+  table_keeps_own still q locked = go op refl (has_here op refl)
     where
       keeps : keeps_table (s.job a) ≡ Some q
       keeps = h.sound.1.table_held q a locked
@@ -548,3 +551,73 @@ module _ (law : Law) (script : ScriptValue) (valid : IsScript script) (r : RunSt
           by_birth : (b : Birth) → birth_for s.birth (doer_of script a (Some (Move proc page zone))) ≡ b → Stays (Move proc page zone) q (turn_at b (answers_with answers.Unborn) (move_turn s a proc page zone (s.job a)))
           by_birth failed lost = λ over still. same_pages (answers_with answers.Unborn) q refl
           by_birth b birth = move_pages q proc page zone (s.job a) keeps
+
+-- ---- with page tables
+
+-- what is kept is kept whatever tables there are before and after
+
+out_tabled : (s t u v : CoreState) (q d : ℕ) → IsButForTables s t → IsButForTables u v → KeepsOut t u q d → KeepsOut s v q d
+out_tabled s t u v q d before after kept =
+    let first = subst (λ (x : CoreState). KeepsOut x u q d) before kept in
+    let now : KeepsOut s u q d = record { locked = first.locked; absent = first.absent; barred = first.barred } in
+    subst (λ (y : CoreState). KeepsOut s y q d) (sym after) (record { locked = now.locked; absent = now.absent; barred = now.barred })
+
+pages_tabled : (s t u v : CoreState) (q : ℕ) → IsButForTables s t → IsButForTables u v → KeepsPages q t u → KeepsPages q s v
+pages_tabled s t u v q before after kept =
+    let first = subst (λ (x : CoreState). KeepsPages q x u) before kept in
+    let now : KeepsPages q s u = record { right = first.right; entry = first.entry; table = first.table; unforked = first.unforked } in
+    subst (λ (y : CoreState). KeepsPages q s y) (sym after) (record { right = now.right; entry = now.entry; table = now.table; unforked = now.unforked })
+
+module _ (law : Law) (script : ScriptValue) (valid : IsScript script) (r : RunState) (h : Stands script r) (a : ℕ) where
+  middle : Middle r.core (doer_of script a (op_in script r a)) (r.places a).far (op_in script r a) (waiting_in script r a)
+  middle = middle_in script valid r h a
+
+  abbrev state : CoreState
+  state = middle.state
+
+  -- the run with the tables of the turn
+  abbrev with_tables : RunState
+  with_tables = record r { core = state }
+
+  stands : Stands script with_tables
+  stands = stands_tabled script r state middle.is.before middle.is.stand h
+
+  abbrev own_end : CoreState
+  own_end = run state (own_in script with_tables a).events
+
+  abbrev end : CoreState
+  end = run r.core (core_turn_in script r a).events
+
+  same_turn : own_in script with_tables a ≡ own_by state (doer_of script a (op_in script r a)) (r.places a).far (op_in script r a) (waiting_in script r a)
+  same_turn = ap (own_by state (doer_of script a (op_in script r a)) (r.places a).far (op_in script r a)) (same_waiting script r state a middle.is.before)
+
+  after : IsButForTables own_end end
+  after = subst (λ (turn : CoreTurn). IsButForTables (run state turn.events) end) (sym same_turn) middle.is.after
+
+  whats : (core_turn_in script r a).whats ≡ (own_in script with_tables a).whats
+  whats = middle.is.whats ∙ sym (ap (λ (turn : CoreTurn). turn.whats) same_turn)
+
+  -- the turn wakes nobody who waits for a lock
+  abbrev pub WakesNone : Type 0
+  WakesNone = wakes (op_in script r a) (place_in end a) ≡ everybody → ⊥
+
+  own_still : WakesNone → wakes (op_in script r a) (place_in own_end a) ≡ everybody → ⊥
+  own_still still all = still (ap (λ (x : CoreState). wakes (op_in script r a) (place_in x a)) after ∙ all)
+
+  pub others_keep : WakesNone → (d q : ℕ) → (d ≡ a → ⊥) → r.core.structure q ≡ Some d → KeepsOut r.core end q d
+  others_keep still d q other locked =
+      out_tabled r.core state own_end end q d middle.is.before after
+      (others_keep_own law script valid with_tables stands a (own_still still) d q other (ap (λ (x : CoreState). x.structure q) middle.is.before ∙ locked))
+
+  pub own_keeps : (child : ℕ) → op_in script r a ≡ Some (Fork child) → 0 < (r.places a).far → r.core.birth (process_of script a) ≡ born → r.core.structure (process_of script a) ≡ Some a → (answers_it (core_turn_in script r a).whats ≡ true → ⊥) → KeepsOut r.core end (process_of script a) a
+  own_keeps child forks far lives locked never =
+      out_tabled r.core state own_end end (process_of script a) a middle.is.before after
+      (own_keeps_own law script valid with_tables stands a child forks far
+      (ap (λ (x : CoreState). x.birth (process_of script a)) middle.is.before ∙ lives)
+      (ap (λ (x : CoreState). x.structure (process_of script a)) middle.is.before ∙ locked)
+      (λ answers. never (ap answers_it whats ∙ answers)))
+
+  pub table_keeps : WakesNone → (q : ℕ) → r.core.table q ≡ Some a → KeepsPages q r.core end
+  table_keeps still q locked =
+      pages_tabled r.core state own_end end q middle.is.before after
+      (table_keeps_own law script valid with_tables stands a (own_still still) q (ap (λ (x : CoreState). x.table q) middle.is.before ∙ locked))

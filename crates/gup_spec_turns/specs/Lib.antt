@@ -1,3 +1,4 @@
+pub mod TableTurns
 pub mod Turn
 pub mod Run
 pub mod Cause

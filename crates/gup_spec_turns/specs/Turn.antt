@@ -1,12 +1,12 @@
 -- The turn table: which core events the next turn of an operation is, and what its notes say.
-use Rattle.std.specs.Prelude.{ℕ, ◌+◌, ◌==◌, [], ◌∷◌}
+use Rattle.std.specs.Prelude.{ℕ, ◌+◌, ◌==◌, List, [], ◌∷◌, ◌++◌}
 use Rattle.gup_plain.specs.State.{Birth, failed}
 use Rattle.gup_plain.specs.declared.answer.Answer.TheVariants as answers
 use Rattle.gup_plain.specs.declared.event.PlainEvent.TheVariants as events
 use Rattle.gup_script.specs.declared.op.Op.{Op}
 use Rattle.gup_script.specs.declared.op.Op.TheVariants.{Map, Unmap, Protect, Discard, Load, Store, Pin, Unpin, Give, Take, Get, Put, Transfer, Mirror, Look, Fork, Exit, Move}
 use Rattle.gup_spec_events.specs.State.{CoreState}
-use Rattle.gup_spec_events.specs.Event.{fail_unborn}
+use Rattle.gup_spec_events.specs.Event.{CoreEvent, fail_unborn, run}
 use Rattle.gup_spec_journal.specs.Place.{Doer, birth_for}
 use Rattle.gup_spec_turns.specs.CoreTurn.{CoreTurn, answers_with, ends_with}
 use Rattle.gup_spec_turns.specs.Emptying.{emptying}
@@ -16,6 +16,7 @@ use Rattle.gup_spec_turns.specs.DeviceTurns.{transfer_turn}
 use Rattle.gup_spec_turns.specs.MirrorTurns.{mirror_turn, look_turn}
 use Rattle.gup_spec_turns.specs.MoveTurns.{move_turn}
 use Rattle.gup_spec_turns.specs.ForkTurns.{fork_turn}
+use Rattle.gup_spec_turns.specs.TableTurns.{grown_by, grows_at, shrinks_by}
 
 -- the turn of an operation of a born process, its own or the one that it names, or of a device with so many slots, of which so
 -- many turns are over
@@ -49,14 +50,36 @@ abbrev pub turn_at : Birth → (refused turn : CoreTurn) → CoreTurn
 turn_at failed refused turn = refused
 turn_at birth refused turn = turn
 
--- Before an entry is set the tables that its page lacks are added, after a page is unmapped the empty ones are taken out, and
--- those that no walk may be inside of are freed: in this one place. Entries are in no tables so far.
-abbrev pub with_tables : CoreState → CoreTurn → CoreTurn
-with_tables s turn = turn
+-- the turn but for page tables
+abbrev pub own_turn : CoreState → Doer → (far : ℕ) → Op → CoreTurn
+own_turn s who far op =
+    emptying s who.actor
+    (turn_at (birth_for s.birth who) (failed_turn who.actor who.proc op)
+    (op_turn s who.actor who.proc who.slots far op))
+
+-- a failed process has no tables to change
+abbrev pub unless_failed : List CoreEvent → Birth → List CoreEvent
+unless_failed [] birth = []
+unless_failed (e ∷ es) failed = []
+unless_failed (e ∷ es) birth = e ∷ es
+
+-- what is done to tables before a turn, and after it
+abbrev pub grows_for : CoreState → Doer → (far : ℕ) → Op → List CoreEvent
+grows_for s who far op =
+    unless_failed (grows_at s who.actor (grown_by s who.actor who.proc far op)) (birth_for s.birth who)
+
+abbrev pub shrinks_for : (before after : CoreState) → Doer → (far : ℕ) → Op → List CoreEvent
+shrinks_for s t who far op = unless_failed (shrinks_by s t who.actor who.proc far op) (birth_for s.birth who)
+
+-- the turn in a state after these events, with them in front, and with the tables that go after it
+abbrev pub behind_growth : CoreState → List CoreEvent → Doer → (far : ℕ) → Op → CoreTurn
+behind_growth s growth who far op =
+    let t = run s growth in
+    let turn = own_turn t who far op in
+    record {
+      events = growth ++ (turn.events ++ shrinks_for t (run t turn.events) who far op);
+      whats = turn.whats;
+    }
 
 abbrev pub turn_of : CoreState → Doer → (far : ℕ) → Op → CoreTurn
-turn_of s who far op =
-    with_tables s
-    (emptying s who.actor
-    (turn_at (birth_for s.birth who) (failed_turn who.actor who.proc op)
-    (op_turn s who.actor who.proc who.slots far op)))
+turn_of s who far op = behind_growth s (grows_for s who far op) who far op

@@ -1,0 +1,134 @@
+-- The events of page tables in a turn: they change tables and nothing else, tell nothing, and invalidate no page.
+use Rattle.std.proofs.Common.{◌≡◌, ℕ, ◌==◌, ◌+◌, ◌||◌, not, is_some, Bool, true, false, if◌then◌else◌, List, [], ◌∷◌, ◌++◌, Option, Some, None, ◌⊎◌, zero, suc, refl, ap, ◌∙◌}
+use Rattle.gup_base.specs.declared.entry.Entry.{Entry}
+use Rattle.gup_plain.specs.Event.{page_numbers}
+use Rattle.gup_spec_tables.specs.Tables.{lacks, detachable}
+use Rattle.gup_spec_events.specs.State.{CoreState}
+use Rattle.gup_spec_events.specs.Event.{CoreEvent, happens, run, tree_in, add_table, take_out, reclaim}
+use Rattle.gup_spec_events.specs.Growth.{reclaims, lowest_table, adds_one, adds, has_enough, adds_all, grows, takes_one, takes_out, retires}
+use Rattle.gup_law_events.specs.Law.{all_told}
+use Rattle.gup_law_tables.specs.Standing.{IsButForTables}
+use Rattle.gup_spec_turns.specs.Emptying.{invalidate, invalidated_by, has_page}
+use Rattle.gup_spec_turns.specs.TableTurns.{spot, unless, retires_at, retires_entries, releases}
+use Rattle.gup_law_turns.proofs.CalmStates.{Strand, AreTurnEvents, IsTurnEvent, adding, taking_table, reclaiming}
+
+-- of actor a, and of the tables of process q
+pub data IsTableEvent (a q : ℕ) : CoreEvent → Type 0 where
+  adds_it : (page table : ℕ) → IsTableEvent a q (add_table a q page table)
+  takes_it : (page table : ℕ) → IsTableEvent a q (take_out a q page table)
+  reclaims_all : IsTableEvent a q (reclaim a q)
+
+abbrev pub AreTableEvents : (a q : ℕ) → List CoreEvent → Type 0
+AreTableEvents a q [] = Unit {0}
+AreTableEvents a q (e ∷ es) = IsTableEvent a q e × AreTableEvents a q es
+
+-- which lists are such
+
+are_behind : (a q : ℕ) (before es : List CoreEvent) → AreTableEvents a q before → AreTableEvents a q es → AreTableEvents a q (before ++ es)
+are_behind a q [] es first more = more
+are_behind a q (e ∷ before) es first more = (first.0, are_behind a q before es first.1 more)
+
+reclaims_are : (s : CoreState) (a q : ℕ) → AreTableEvents a q (reclaims s a q)
+reclaims_are s a q = go (s.walks q == 0)
+  where
+    go : (b : Bool) → AreTableEvents a q (if b then reclaim a q ∷ [] else [])
+    go true = (reclaims_all, tt)
+    go false = tt
+
+one_is : (a q page : ℕ) (o : Option ℕ) → AreTableEvents a q (adds_one a q page o)
+one_is a q page None = tt
+one_is a q page (Some table) = (adds_it page table, tt)
+
+adds_are : (s : CoreState) (a q page n : ℕ) → AreTableEvents a q (adds s a q page n)
+adds_are s a q page zero = tt
+adds_are s a q page (suc n) =
+    let one : List CoreEvent = adds_one a q page (lowest_table s) in
+    are_behind a q one (adds (run s one) a q page n) (one_is a q page (lowest_table s)) (adds_are (run s one) a q page n)
+
+adds_all_are : (s : CoreState) (a q page : ℕ) → AreTableEvents a q (adds_all s a q page)
+adds_all_are s a q page = go (has_enough s q page)
+  where
+    go : (b : Bool) → AreTableEvents a q (if b then adds s a q page (lacks (tree_in s q) page) else [])
+    go true = adds_are s a q page (lacks (tree_in s q) page)
+    go false = tt
+
+pub grows_are : (s : CoreState) (a q page : ℕ) → AreTableEvents a q (grows s a q page)
+grows_are s a q page =
+    are_behind a q (reclaims s a q) (adds_all (run s (reclaims s a q)) a q page) (reclaims_are s a q) (adds_all_are (run s (reclaims s a q)) a q page)
+
+took_is : (a q page : ℕ) (o : Option ℕ) → AreTableEvents a q (takes_one a q page o)
+took_is a q page None = tt
+took_is a q page (Some table) = (takes_it page table, tt)
+
+takes_are : (s : CoreState) (a q page n : ℕ) → AreTableEvents a q (takes_out s a q page n)
+takes_are s a q page zero = tt
+takes_are s a q page (suc n) =
+    let one : List CoreEvent = takes_one a q page (detachable (tree_in s q) page) in
+    are_behind a q one (takes_out (run s one) a q page n) (took_is a q page (detachable (tree_in s q) page)) (takes_are (run s one) a q page n)
+
+pub retires_are : (s : CoreState) (a q page : ℕ) → AreTableEvents a q (retires s a q page)
+retires_are s a q page =
+    let t : CoreState = run s (takes_out s a q page 3) in
+    are_behind a q (takes_out s a q page 3) (reclaims t a q) (takes_are s a q page 3) (reclaims_are t a q)
+
+pub at_are : (s : CoreState) (a q page : ℕ) (enough : Bool) → AreTableEvents a q (retires_at s a (unless enough (spot q page)))
+at_are s a q page true = tt
+at_are s a q page false = retires_are s a q page
+
+-- what is true of the events at each page that had an entry is true of them all
+pub entries_are : (s : CoreState) (a c : ℕ) (had : ℕ → Option Entry) (first n : ℕ) → AreTableEvents a c (retires_entries s a c had first n)
+entries_are s a c had first zero = tt
+entries_are s a c had first (suc n) =
+    let es : List CoreEvent = retires_at s a (unless (not (is_some (had first))) (spot c first)) in
+    are_behind a c es (retires_entries (run s es) a c had (first + 1) n) (at_are s a c first (not (is_some (had first)))) (entries_are (run s es) a c had (first + 1) n)
+
+pub releases_are : (s : CoreState) (a c page : ℕ) (had : ℕ → Option Entry) → AreTableEvents a c (releases s a c page had)
+releases_are s a c page had =
+    let t : CoreState = run s (retires s a c page) in
+    are_behind a c (retires s a c page) (retires_entries t a c had 0 page_numbers) (retires_are s a c page) (entries_are t a c had 0 page_numbers)
+
+-- what they do
+
+pub tables_only : (s : CoreState) (a q : ℕ) (es : List CoreEvent) → AreTableEvents a q es → IsButForTables s (run s es)
+tables_only s a q [] are = refl
+tables_only s a q (e ∷ es) are = go are.0 (tables_only (happens s e) a q es are.1)
+  where
+    go : {e : CoreEvent} → IsTableEvent a q e → IsButForTables (happens s e) (run (happens s e) es) → IsButForTables s (run (happens s e) es)
+    go (adds_it page table) rest = rest
+    go (takes_it page table) rest = rest
+    go reclaims_all rest = rest
+
+pub untold : (a q : ℕ) (es : List CoreEvent) → AreTableEvents a q es → all_told es ≡ []
+untold a q [] are = refl
+untold a q (e ∷ es) are = go are.0 (untold a q es are.1)
+  where
+    go : {e : CoreEvent} → IsTableEvent a q e → all_told es ≡ [] → all_told (e ∷ es) ≡ []
+    go (adds_it page table) rest = rest
+    go (takes_it page table) rest = rest
+    go reclaims_all rest = rest
+
+pub kinds_are : (a p c q : ℕ) (strand : Strand) (es : List CoreEvent) → (q ≡ p) ⊎ (q ≡ c) → AreTableEvents a q es → AreTurnEvents a p c strand es
+kinds_are a p c q strand [] own are = tt
+kinds_are a p c q strand (e ∷ es) own are = (go are.0, kinds_are a p c q strand es own are.1)
+  where
+    go : {e : CoreEvent} → IsTableEvent a q e → IsTurnEvent a p c strand e
+    go (adds_it page table) = adding q page table own
+    go (takes_it page table) = taking_table q page table own
+    go reclaims_all = reclaiming q own
+
+pub invalidates_none : (a q : ℕ) (es : List CoreEvent) → AreTableEvents a q es → (p page : ℕ) → invalidate es p page ≡ false
+invalidates_none a q [] are p page = refl
+invalidates_none a q (e ∷ es) are p page = go are.0 (invalidates_none a q es are.1 p page)
+  where
+    go : {e : CoreEvent} → IsTableEvent a q e → invalidate es p page ≡ false → invalidate (e ∷ es) p page ≡ false
+    go (adds_it page table) rest = rest
+    go (takes_it page table) rest = rest
+    go reclaims_all rest = rest
+
+pub invalidate_behind : (before es : List CoreEvent) (p page : ℕ) → invalidate (before ++ es) p page ≡ (invalidate before p page || invalidate es p page)
+invalidate_behind [] es p page = refl
+invalidate_behind (e ∷ before) es p page = ap (λ (b : Bool). has_page (invalidated_by e) p page || b) (invalidate_behind before es p page) ∙ assoc (has_page (invalidated_by e) p page) (invalidate before p page) (invalidate es p page)
+  where
+    assoc : (x y z : Bool) → (x || (y || z)) ≡ ((x || y) || z)
+    assoc true y z = refl
+    assoc false y z = refl
