@@ -214,3 +214,44 @@ retires_all s a p page stand may =
     let t : CoreState = run s (takes_out s a p page 3) in
     subst (λ (x : CoreState). detachable (tree_in x p) page ≡ None) (sym (run_behind s (takes_out s a p page 3) (reclaims t a p)))
     (reclaimed_tree t a p page ∙ all_taken s a p page 3 stand may (omega arith))
+
+-- where no walk of the process runs, none of its tables waits
+
+reclaims_freed : (s : CoreState) (a p : ℕ) → s.walks p ≡ 0 → (run s (reclaims s a p)).retired p ≡ []
+reclaims_freed s a p still = go (s.walks p == 0) (rw still refl)
+  where
+    go : (b : Bool) → b ≡ true → (run s (if b then reclaim a p ∷ [] else [])).retired p ≡ []
+    go true is = put_same p [] s.retired
+    go false is = absurd cc
+
+one_waits : (s : CoreState) (a p page : ℕ) (o : Option ℕ) → (run s (adds_one a p page o)).retired ≡ s.retired
+one_waits s a p page None = refl
+one_waits s a p page (Some table) = refl
+
+-- tables that are added leave those that wait
+adds_wait : (s : CoreState) (a p page n : ℕ) → (run s (adds s a p page n)).retired ≡ s.retired
+adds_wait s a p page zero = refl
+adds_wait s a p page (suc n) =
+    let one : List CoreEvent = adds_one a p page (lowest_table s) in
+    ap (λ (t : CoreState). t.retired) (run_behind s one (adds (run s one) a p page n))
+    ∙ adds_wait (run s one) a p page n ∙ one_waits s a p page (lowest_table s)
+
+adds_all_wait : (s : CoreState) (a p page : ℕ) → (run s (adds_all s a p page)).retired ≡ s.retired
+adds_all_wait s a p page = go (has_enough s p page)
+  where
+    go : (b : Bool) → (run s (if b then adds s a p page (lacks (tree_in s p) page) else [])).retired ≡ s.retired
+    go true = adds_wait s a p page (lacks (tree_in s p) page)
+    go false = refl
+
+pub grows_freed : (s : CoreState) (a p page : ℕ) → s.walks p ≡ 0 → (run s (grows s a p page)).retired p ≡ []
+grows_freed s a p page still =
+    let t : CoreState = run s (reclaims s a p) in
+    ap (λ (u : CoreState). u.retired p) (run_behind s (reclaims s a p) (adds_all t a p page))
+    ∙ ap (λ (f : ℕ → List ℕ). f p) (adds_all_wait t a p page) ∙ reclaims_freed s a p still
+
+pub retires_freed : (s : CoreState) (a p page : ℕ) → s.walks p ≡ 0 → (run s (retires s a p page)).retired p ≡ []
+retires_freed s a p page still =
+    let t : CoreState = run s (takes_out s a p page 3) in
+    let walks : t.walks p ≡ s.walks p = same_in (λ u. u.walks p) (λ u free place retired. refl) s t (takes_kept s a p page 3) in
+    ap (λ (u : CoreState). u.retired p) (run_behind s (takes_out s a p page 3) (reclaims t a p))
+    ∙ reclaims_freed t a p (walks ∙ still)

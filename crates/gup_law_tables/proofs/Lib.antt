@@ -4,3 +4,6 @@ pub mod Owners
 pub mod TableEvents
 pub mod TableRuns
 pub mod Growth
+pub mod Somewhere
+pub mod Entries
+pub mod KeptPaths

@@ -13,21 +13,21 @@ use Rattle.gup_law_tables.specs.Standing.{IsTree, AreOwned, has}
 use Rattle.gup_law_tables.proofs.Trees.{added, removed}
 
 -- one of two tests passes
-either : (b c : Bool) → (b || c) ≡ true → (b ≡ true) ⊎ (c ≡ true)
+pub either : (b c : Bool) → (b || c) ≡ true → (b ≡ true) ⊎ (c ≡ true)
 either true c is = inl refl
 either false c is = inr is
 
-left_true : (b c : Bool) → b ≡ true → (b || c) ≡ true
+pub left_true : (b c : Bool) → b ≡ true → (b || c) ≡ true
 left_true b c is = rw is refl
 
-right_true : (b c : Bool) → c ≡ true → (b || c) ≡ true
+pub right_true : (b c : Bool) → c ≡ true → (b || c) ≡ true
 right_true true c is = refl
 right_true false c is = is
 
 both_false : (b c : Bool) → b ≡ false → c ≡ false → (b || c) ≡ false
 both_false b c left right = rw (left, right) refl
 
-here2 : (p table : ℕ) (x : Option Place) (place : ℕ → ℕ → Option Place) → put2 p table x place p ≡ put table x (place p)
+pub here2 : (p table : ℕ) (x : Option Place) (place : ℕ → ℕ → Option Place) → put2 p table x place p ≡ put table x (place p)
 here2 p table x place = let test : (p == p) ≡ true = grind (arith, nat_tests) in rw test refl
 
 away2 : (p table : ℕ) (x : Option Place) (place : ℕ → ℕ → Option Place) (q : ℕ) → q ≢ p → put2 p table x place q ≡ place q

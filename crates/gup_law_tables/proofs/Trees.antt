@@ -15,7 +15,7 @@ use Rattle.gup_tables.proofs.TreeAdded.{cases_place}
 use Rattle.gup_law_tables.specs.Standing.{IsTree}
 use Rattle.gup_law_tables.proofs.PathLevels.{split, few, fewer}
 
-placed : (place : ℕ → Option Place) → IsTree place → ArePlaced place
+pub placed : (place : ℕ → Option Place) → IsTree place → ArePlaced place
 placed place tree = record { numbered = tree.numbered; apart = tree.apart }
 
 module _ (v : TreeValue) (tree : IsTree v.place) (page : ℕ) where
@@ -68,7 +68,7 @@ module _ (v : TreeValue) (tree : IsTree v.place) (page table : ℕ) (within : pa
   unfolding page_numbers
   root_span level is = rw is (omega (arith, within))
 
-  still_linked : (q : Place) → IsSome (table_at v.place q) → IsSome (table_at (put table (Some p) v.place) q)
+  pub still_linked : (q : Place) → IsSome (table_at v.place q) → IsSome (table_at (put table (Some p) v.place) q)
   still_linked q is =
       ⊎_elim
       (λ (here : q ≡ p). rw (here, added_here v.place are table p new small free) refl)
@@ -95,7 +95,7 @@ module _ (v : TreeValue) (tree : IsTree v.place) (page table : ℕ) (within : pa
   }
 
 -- the words of an empty table are 0
-empty_words : (v : TreeValue) (table i : ℕ) → is_empty v table ≡ true → i < table_words → word_of v table i ≡ 0
+pub empty_words : (v : TreeValue) (table i : ℕ) → is_empty v table ≡ true → i < table_words → word_of v table i ≡ 0
 empty_words v table i empty within = go (word_of v table i == 0) refl
   where
     go : (zero : Bool) → (word_of v table i == 0) ≡ zero → word_of v table i ≡ 0
@@ -105,7 +105,7 @@ empty_words v table i empty within = go (word_of v table i == 0) refl
         absurd (cc (one, empty))
 
 -- what can be taken out has no word that isn't 0, and isn't the root
-detached_empty : (v : TreeValue) (page table : ℕ) → detachable v page ≡ Some table → (lacks v page < 3) × (is_empty v table ≡ true)
+pub detached_empty : (v : TreeValue) (page table : ℕ) → detachable v page ≡ Some table → (lacks v page < 3) × (is_empty v table ≡ true)
 detached_empty v page table is = go (nat_lt (lacks v page) 3) refl is
   where
     empty : (o : Option ℕ) → if_empty v o ≡ Some table → is_empty v table ≡ true

@@ -1,5 +1,5 @@
 -- What is true of the page tables of every state that the core machine reaches.
-use Rattle.std.specs.Prelude.{◌≡◌, ℕ, ◌<◌, ◌≤◌, ◌||◌, Bool, true, false, is_some, List, Option, Some, None, IsSome}
+use Rattle.std.specs.Prelude.{◌≡◌, ℕ, ◌<◌, ◌≤◌, ◌||◌, ◌⊎◌, Bool, true, false, is_some, List, Option, Some, None, IsSome}
 use Rattle.gup_spec_tables.specs.declared.place.Place.{Place}
 use Rattle.gup_spec_tables.specs.Tables.{table_numbers, table_at, above, is_among, AreApart}
 use Rattle.gup_spec_events.specs.State.{CoreState}
@@ -32,6 +32,10 @@ has_table s p table = has (s.place p) (s.retired p) table
 
 abbrev pub TablesStand : CoreState → Type 0
 TablesStand s = AreOwned s.free_table s.place s.retired
+
+-- the table is free, or some process has it
+abbrev pub IsSomewhere : CoreState → (table : ℕ) → Type 0
+IsSomewhere s table = (s.free_table table ≡ true) ⊎ ((p : ℕ) × (has_table s p table ≡ true))
 
 -- the state is the other one, but for its tables
 abbrev pub IsButForTables : (s t : CoreState) → Type 0

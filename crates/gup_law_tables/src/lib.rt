@@ -2,14 +2,15 @@
 //! A page gets all the tables that it lacks, or none; and no empty table is left on the path of one that is retired, but for the root.
 #![tactic(auto)]
 
-ghost use Rattle.std.specs.Prelude.{◌≡◌, ℕ, ◌<◌, ◌≤◌, ◌==◌, true, Bool, List, None, IsSome};
+ghost use Rattle.std.specs.Prelude.{◌≡◌, ℕ, ◌<◌, ◌≤◌, ◌==◌, true, Bool, List, [], Some, None, IsSome};
+ghost use Rattle.gup_base.specs.declared.entry.Entry.{Entry};
 ghost use Rattle.gup_plain.specs.Event.{page_numbers};
 ghost use Rattle.gup_spec_tables.specs.Tables.{table_numbers, lacks, detachable};
 ghost use Rattle.gup_spec_events.specs.State.{CoreState, core_start};
 ghost use Rattle.gup_spec_events.specs.Event.{CoreEvent, Can, happens, run, tree_in, MayShape};
 ghost use Rattle.gup_spec_events.specs.Growth.{grows, has_enough, reclaims, retires};
 ghost use Rattle.gup_spec_events.specs.Invariant.{AllCan};
-ghost use Rattle.gup_law_tables.specs.Standing.{TablesStand, has_table, IsButForTables};
+ghost use Rattle.gup_law_tables.specs.Standing.{TablesStand, has_table, IsSomewhere, IsButForTables};
 
 /// Each process has a tree of tables, and each table is free or of one process, which has it in its tree or has taken it out of
 /// that. An event leaves it so, and from the start on it is so after whatever events, each when it can happen.
@@ -25,17 +26,31 @@ pub fn walks_keep_tables()
 {}
 
 /// A page of a process whose tables an actor may change gets the tables that it lacks exactly where as many are free, after those
-/// that the process has taken out have come free, unless a walk of it runs. Nothing but tables changes.
+/// that the process has taken out have come free, unless a walk of it runs. Where none runs, no table of it waits afterwards.
+/// Nothing but tables changes.
 pub fn tables_grow()
     ensures can { (s : CoreState) (a p page : ℕ) → TablesStand s → MayShape s a p → IsSome (s.right p page) → page < page_numbers → AllCan s (grows s a p page) }
     ensures complete { (s : CoreState) (a p page : ℕ) → TablesStand s → MayShape s a p → IsSome (s.right p page) → page < page_numbers → (lacks (tree_in (run s (grows s a p page)) p) page == 0) ≡ has_enough (run s (reclaims s a p)) p page }
     ensures others { (s : CoreState) (a p page : ℕ) → IsButForTables s (run s (grows s a p page)) }
+    ensures freed { (s : CoreState) (a p page : ℕ) → s.walks p ≡ 0 → (run s (grows s a p page)).retired p ≡ [] }
 {}
 
 /// The empty tables of a page's path are taken out of the tree, all but the root, and come free unless a walk of the process runs.
-/// Nothing but tables changes.
+/// Where none runs, no table of it waits afterwards. Nothing but tables changes.
 pub fn tables_shrink()
     ensures can { (s : CoreState) (a p page : ℕ) → MayShape s a p → AllCan s (retires s a p page) }
     ensures all { (s : CoreState) (a p page : ℕ) → TablesStand s → MayShape s a p → detachable (tree_in (run s (retires s a p page)) p) page ≡ None }
     ensures others { (s : CoreState) (a p page : ℕ) → IsButForTables s (run s (retires s a p page)) }
+    ensures freed { (s : CoreState) (a p page : ℕ) → s.walks p ≡ 0 → (run s (retires s a p page)).retired p ≡ [] }
+{}
+
+/// No table is lost: one that is free, or that a process has, is so after whatever event, and from the start on each is.
+pub fn no_table_is_lost()
+    ensures event { (s : CoreState) (e : CoreEvent) (table : ℕ) → Can s e → IsSomewhere s table → IsSomewhere (happens s e) table }
+    ensures run { (movable normal tables : ℕ) (is_born : ℕ → Bool) (es : List CoreEvent) (table : ℕ) → AllCan (core_start movable normal tables is_born) es → table < tables → IsSomewhere (run (core_start movable normal tables is_born) es) table }
+{}
+
+/// A page with an entry that lacks no table lacks none after whatever event: only empty tables are taken out.
+pub fn entries_keep_tables()
+    ensures { (s : CoreState) (e : CoreEvent) (p page : ℕ) (entry : Entry) → TablesStand s → Can s e → s.entry p page ≡ Some entry → lacks (tree_in s p) page ≡ 0 → lacks (tree_in (happens s e) p) page ≡ 0 }
 {}

@@ -1,5 +1,5 @@
 -- The page's tables grow, and nothing else changes.
-use Rattle.gup_law_tables.proofs.Growth.{grows_can, grows_kept}
+use Rattle.gup_law_tables.proofs.Growth.{grows_can, grows_kept, grows_freed}
 use Rattle.gup_law_tables.proofs.tables_grow.Goals as goal
 
 pub returns-clause-can : goal.returns-clause-can
@@ -10,3 +10,6 @@ returns-clause-complete c = λ s a p page stand may mapped within. (grows_can a 
 
 pub returns-clause-others : goal.returns-clause-others
 returns-clause-others c = λ s a p page. grows_kept s a p page
+
+pub returns-clause-freed : goal.returns-clause-freed
+returns-clause-freed c = λ s a p page still. grows_freed s a p page still
