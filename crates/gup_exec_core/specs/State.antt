@@ -1,5 +1,5 @@
 -- The state of the core machine as the program keeps it.
-use Rattle.std.specs.Prelude.{nat_lt, [], None}
+use Rattle.std.specs.Prelude.{false, nat_lt, [], None}
 use Rattle.gup_spec_events.specs.State.{CoreState}
 use Rattle.gup_exec_parts.specs.Contents.{content_of}
 use Rattle.gup_exec_rows.specs.Grid.{found}
@@ -12,7 +12,7 @@ use Rattle.gup_exec_rows.specs.Sheets.{words_in}
 use Rattle.gup_exec_rows.specs.Stores.{slots_of}
 use Rattle.gup_exec_core.specs.declared.trial.Trial.{Trial}
 
--- each field, read as a function of numbers; there are no page tables
+-- each field, read as a function of numbers; there are no page tables, and entries need none
 abbrev pub state_of : Trial → CoreState
 state_of t =
     record {
@@ -36,6 +36,7 @@ state_of t =
       free_table = λ table. nat_lt table 0;
       place = λ _ _. None;
       retired = λ _. [];
+      needs_tables = false;
       content = content_of t.contents;
       made = t.contents.made;
       handle = handles_in t.handle;

@@ -69,7 +69,7 @@ impl Trial {
     /// The start: so many frames of the movable zone and, after them, of the normal one, all free and zero; one process
     /// born, and nothing mapped.
     pub fn new(alloc: Global, movable: u16, normal: u16, first: ProcNo) -> Result<Trial, NoMemory>
-        ensures { IfOk result (λ trial. state_of trial ≡ core_start movable normal 0 (λ p. p == first)) }
+        ensures { IfOk result (λ trial. state_of trial ≡ core_start movable normal 0 false (λ p. p == first)) }
     {
         let count = Row::new(alloc, 0)?;
         let mark = Row::new(alloc, false)?;

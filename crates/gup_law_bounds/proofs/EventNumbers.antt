@@ -222,8 +222,8 @@ numbers_event n s (drop_first a p write long sequence first left) sound can h =
 numbers_event n s (leave_walk a p write long sequence) sound can h = numbers_same n s (happens s (leave_walk a p write long sequence)) refl refl refl refl refl refl h
 
 -- at the start nothing is there
-pub numbers_first : (movable normal tables : ℕ) (is_born : ℕ → Bool) → AreNumbered (movable + normal) (core_start movable normal tables is_born)
-numbers_first movable normal tables is_born =
+pub numbers_first : (movable normal tables : ℕ) (needs_tables : Bool) (is_born : ℕ → Bool) → AreNumbered (movable + normal) (core_start movable normal tables needs_tables is_born)
+numbers_first movable normal tables needs_tables is_born =
     record {
       size = refl;
       entries = λ p page e is. absurd (cc);

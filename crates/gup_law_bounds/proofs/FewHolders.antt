@@ -37,8 +37,8 @@ limited_event s e within h =
       got = λ k far. (within.name s k far).1 ∙ h.got k far;
     }
 
-pub limited_first : (movable normal tables : ℕ) (is_born : ℕ → Bool) → IsLimited (core_start movable normal tables is_born)
-limited_first movable normal tables is_born =
+pub limited_first : (movable normal tables : ℕ) (needs_tables : Bool) (is_born : ℕ → Bool) → IsLimited (core_start movable normal tables needs_tables is_born)
+limited_first movable normal tables needs_tables is_born =
     record {
       job = λ a far. refl;
       prepared = λ a far. refl;

@@ -9,7 +9,7 @@ use Rattle.gup_spec_events.specs.State.{more, between, ready, stopped}
 use Rattle.gup_spec_events.specs.Event.{CoreEvent, entry_of}
 use Rattle.gup_law_events.specs.Possible.{taken_page, one_run}
 use Rattle.gup_law_bounds.specs.Limits.{IsWithin}
-use Rattle.gup_law_bounds.proofs.WithinLimits.{within-take_frame, within-fill, within-count_one, within-set_mark, within-upgrade, within-break_entry, within-put_entry, within-raise_flag, within-pin_page, within-make_handle, within-unpin_page, within-give_handle, within-take_handle, within-get_reference, within-put_reference, within-clear_entry, within-count_moved, within-place_frame, within-restore_entry, within-begin_fork, within-count_page, within-share_entry, within-share_mark, within-share_child, within-copy_word, within-pass_page, within-end_fork, within-fail_fork, within-put_child, within-fail_unborn, within-map_pages, within-lower_entry, within-protect_pages, within-drop_entry, within-discard_entry, within-load, within-store, within-move_out, within-move_in, within-empty_mirror, within-fill_mirror, within-look, within-enter_walk, within-read_sequence, within-read_entry, within-grab_frame, within-miss_frame, within-recheck_same, within-recheck_other, within-read_mark, within-read_again, within-drop_grab, within-drop_last, within-drop_first, within-leave_walk}
+use Rattle.gup_law_bounds.proofs.WithinLimits.{within-take_frame, within-fill, within-count_one, within-set_mark, within-upgrade, within-break_entry, within-put_entry, within-raise_flag, within-pin_page, within-make_handle, within-unpin_page, within-give_handle, within-take_handle, within-get_reference, within-put_reference, within-clear_entry, within-count_moved, within-place_frame, within-restore_entry, within-begin_fork, within-count_page, within-share_entry, within-share_mark, within-share_child, within-copy_word, within-pass_page, within-end_fork, within-fail_fork, within-put_child, within-fail_unborn, within-map_pages, within-lower_entry, within-protect_pages, within-drop_entry, within-discard_entry, within-add_table, within-take_out, within-reclaim, within-load, within-store, within-move_out, within-move_in, within-empty_mirror, within-fill_mirror, within-look, within-enter_walk, within-read_sequence, within-read_entry, within-grab_frame, within-miss_frame, within-recheck_same, within-recheck_other, within-read_mark, within-read_again, within-drop_grab, within-drop_last, within-drop_first, within-leave_walk}
 
 abbrev EachWithin : List CoreEvent → Type 0
 EachWithin [] = Unit {0}
@@ -27,6 +27,10 @@ infixr 5 ◌and_then◌
 each_within : EachWithin one_run
 each_within =
     within-map_pages 0 0 7 1 RW
+    and_then within-add_table 0 0 7 0
+    and_then within-add_table 0 0 7 1
+    and_then within-add_table 0 0 7 2
+    and_then within-add_table 0 0 7 3
     and_then within-take_frame 0 3 (omega arith)
     and_then within-fill 0 0 7 3 (omega arith) (omega arith)
     and_then within-upgrade 0 0 7 3 (omega arith)
@@ -89,6 +93,10 @@ each_within =
     and_then within-drop_last 6 0 false false 0 [] (taken_page false) (omega arith)
     and_then within-read_again 6 0 false false 0 stopped 1 (omega arith)
     and_then within-leave_walk 6 0 false false 0 (omega arith)
+    and_then within-add_table 0 1 7 4
+    and_then within-add_table 0 1 7 5
+    and_then within-add_table 0 1 7 6
+    and_then within-add_table 0 1 7 7
     and_then within-share_child 0 0 1 [] 7 3 false (omega arith) (omega arith)
     and_then within-end_fork 0 0 1 (7 ∷ []) (omega arith) (omega arith)
     and_then within-take_frame 0 4 (omega arith)
@@ -122,6 +130,10 @@ each_within =
     and_then within-count_page 1 1 4 [] 7 (entry_of 6 false) false (omega arith)
     and_then within-share_entry 1 1 4 [] 7 6 false (omega arith) (omega arith)
     and_then within-share_mark 1 1 4 [] 7 6 false (omega arith)
+    and_then within-add_table 1 4 7 8
+    and_then within-add_table 1 4 7 9
+    and_then within-add_table 1 4 7 10
+    and_then within-add_table 1 4 7 11
     and_then within-share_child 1 1 4 [] 7 6 false (omega arith) (omega arith)
     and_then within-fail_fork 1 1 4 (7 ∷ []) between false (omega arith) (omega arith)
     and_then within-put_child 1 1 4 (7 ∷ []) 7 (entry_of 6 false) true (omega arith) (omega arith)
@@ -134,6 +146,8 @@ each_within =
     and_then within-count_page 1 1 5 [] 7 (entry_of 6 false) true (omega arith)
     and_then within-take_frame 1 7 (omega arith)
     and_then within-copy_word 1 1 5 [] 7 0 7 (entry_of 6 false) (omega arith)
+    and_then within-take_out 0 0 7 3
+    and_then within-reclaim 0 0
     and_then tt
 
 pub one_run_within : All IsWithin one_run

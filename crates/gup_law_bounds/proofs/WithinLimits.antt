@@ -7,7 +7,7 @@ use Rattle.gup_base.specs.declared.entry.Entry.{Entry}
 use Rattle.gup_base.specs.declared.entry.Rights.{Rights}
 use Rattle.gup_plain.specs.Put.{put, put2}
 use Rattle.gup_spec_events.specs.State.{CoreState, Taken, idle, Counted, ForkStep, WalkStep}
-use Rattle.gup_spec_events.specs.Event.{take_frame, fill, count_one, set_mark, upgrade, break_entry, put_entry, raise_flag, pin_page, make_handle, unpin_page, give_handle, take_handle, get_reference, put_reference, clear_entry, count_moved, place_frame, restore_entry, begin_fork, count_page, share_entry, share_mark, share_child, copy_word, pass_page, end_fork, fail_fork, put_child, fail_unborn, map_pages, lower_entry, protect_pages, drop_entry, discard_entry, load, store, move_out, move_in, empty_mirror, fill_mirror, look, enter_walk, read_sequence, read_entry, grab_frame, miss_frame, recheck_same, recheck_other, read_mark, read_again, drop_grab, drop_last, drop_first, leave_walk}
+use Rattle.gup_spec_events.specs.Event.{take_frame, fill, count_one, set_mark, upgrade, break_entry, put_entry, raise_flag, pin_page, make_handle, unpin_page, give_handle, take_handle, get_reference, put_reference, clear_entry, count_moved, place_frame, restore_entry, begin_fork, count_page, share_entry, share_mark, share_child, copy_word, pass_page, end_fork, fail_fork, put_child, fail_unborn, map_pages, lower_entry, protect_pages, drop_entry, discard_entry, add_table, take_out, reclaim, load, store, move_out, move_in, empty_mirror, fill_mirror, look, enter_walk, read_sequence, read_entry, grab_frame, miss_frame, recheck_same, recheck_other, read_mark, read_again, drop_grab, drop_last, drop_first, leave_walk}
 use Rattle.gup_law_bounds.specs.Limits.{IsWithin}
 
 far : {X : Type 0} (n a b : ℕ) (x : X) (f : ℕ → X) → a < n → n ≤ b → put a x f b ≡ f b
@@ -159,6 +159,18 @@ within-drop_entry a p page was low-a low-p =
 pub within-discard_entry : (a p page : ℕ) (was : Option Entry) → a < 81 → p < 16 → IsWithin (discard_entry a p page was)
 within-discard_entry a p page was low-a low-p =
     record { actor = λ s b away. (refl, refl, far 81 a b _ s.owed low-a away, refl); process = λ s q away. (refl, λ g. far2 16 p q page g _ s.entry low-p away); name = λ s i away. (refl, refl) }
+
+pub within-add_table : (a p page table : ℕ) → IsWithin (add_table a p page table)
+within-add_table a p page table =
+    record { actor = λ s b away. (refl, refl, refl, refl); process = λ s q away. (refl, λ g. refl); name = λ s i away. (refl, refl) }
+
+pub within-take_out : (a p page table : ℕ) → IsWithin (take_out a p page table)
+within-take_out a p page table =
+    record { actor = λ s b away. (refl, refl, refl, refl); process = λ s q away. (refl, λ g. refl); name = λ s i away. (refl, refl) }
+
+pub within-reclaim : (a p : ℕ) → IsWithin (reclaim a p)
+within-reclaim a p =
+    record { actor = λ s b away. (refl, refl, refl, refl); process = λ s q away. (refl, λ g. refl); name = λ s i away. (refl, refl) }
 
 pub within-load : (a p page word f value : ℕ) → IsWithin (load a p page word f value)
 within-load a p page word f value =

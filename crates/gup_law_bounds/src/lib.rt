@@ -12,9 +12,9 @@ ghost use Rattle.gup_law_bounds.specs.Limits.{IsWithin};
 /// limits, the count of each frame is below 2^60, and the sequence of each process at most 32. Whatever the limits, a frame
 /// with a count is one that the machine has.
 pub fn core_runs_stay_small()
-    ensures counts { (movable normal tables : ℕ) (is_born : ℕ → Bool) (es : List CoreEvent) → AllCan (core_start movable normal tables is_born) es → All IsWithin es → (f : ℕ) → (run (core_start movable normal tables is_born) es).count f < 2 ^ 60 }
-    ensures sequences { (movable normal tables : ℕ) (is_born : ℕ → Bool) (es : List CoreEvent) → AllCan (core_start movable normal tables is_born) es → All IsWithin es → (p : ℕ) → (run (core_start movable normal tables is_born) es).sequence p ≤ 32 }
-    ensures frames { (movable normal tables : ℕ) (is_born : ℕ → Bool) (es : List CoreEvent) → AllCan (core_start movable normal tables is_born) es → (f : ℕ) → ((run (core_start movable normal tables is_born) es).count f ≡ 0 → ⊥) → f < movable + normal }
+    ensures counts { (movable normal tables : ℕ) (needs_tables : Bool) (is_born : ℕ → Bool) (es : List CoreEvent) → AllCan (core_start movable normal tables needs_tables is_born) es → All IsWithin es → (f : ℕ) → (run (core_start movable normal tables needs_tables is_born) es).count f < 2 ^ 60 }
+    ensures sequences { (movable normal tables : ℕ) (needs_tables : Bool) (is_born : ℕ → Bool) (es : List CoreEvent) → AllCan (core_start movable normal tables needs_tables is_born) es → All IsWithin es → (p : ℕ) → (run (core_start movable normal tables needs_tables is_born) es).sequence p ≤ 32 }
+    ensures frames { (movable normal tables : ℕ) (needs_tables : Bool) (is_born : ℕ → Bool) (es : List CoreEvent) → AllCan (core_start movable normal tables needs_tables is_born) es → (f : ℕ) → ((run (core_start movable normal tables needs_tables is_born) es).count f ≡ 0 → ⊥) → f < movable + normal }
 {
     gup_law_events::simulates();
     gup_law_events::starts_sound();

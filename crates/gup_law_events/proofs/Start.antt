@@ -41,8 +41,8 @@ not_growing : (b : Bool) (p : ℕ) → (if b then born else unborn) ≡ growing 
 not_growing true p is = absurd (cc)
 not_growing false p is = absurd (cc)
 
-pub sound_start : (movable normal tables : ℕ) (is_born : ℕ → Bool) → IsSound (core_start movable normal tables is_born)
-sound_start movable normal tables is_born = (
+pub sound_start : (movable normal tables : ℕ) (needs_tables : Bool) (is_born : ℕ → Bool) → IsSound (core_start movable normal tables needs_tables is_born)
+sound_start movable normal tables needs_tables is_born = (
   nothing,
   record {
     references = none_counted (held (λ _ _. None) (λ _. None) (λ _. None) (λ _. None) (λ _. None) (λ _. []) (λ _. [])) none_held;

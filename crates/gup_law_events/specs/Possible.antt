@@ -1,11 +1,12 @@
--- A run that shows that the laws speak of something: pages are mapped, written, mirrored, pinned, shared, copied, moved
--- and given back, forks end and fail, and walks pin a page, miss it, and drop it, disturbed by a fork.
-use Rattle.std.specs.Prelude.{ℕ, ◌==◌, Bool, true, false, List, [], ◌∷◌, Some}
+-- A run that shows that the laws speak of something, where a page needs its tables: pages are mapped, get their tables, are
+-- written, mirrored, pinned, shared, copied, moved and given back, forks end and fail, walks pin a page, miss it, and drop it,
+-- disturbed by a fork, and a table is taken out and comes free.
+use Rattle.std.specs.Prelude.{ℕ, ◌+◌, ◌==◌, Bool, true, false, List, [], ◌∷◌, ◌++◌, Some}
 use Rattle.gup_base.specs.declared.entry.Allowed.TheVariants.{Any, Only}
 use Rattle.gup_base.specs.declared.entry.Rights.TheVariants.{RW}
 use Rattle.gup_base.specs.declared.entry.Zone.TheVariants.{Normal}
 use Rattle.gup_spec_events.specs.State.{Taken, more, between, ready, stopped}
-use Rattle.gup_spec_events.specs.Event.{CoreEvent, entry_of, map_pages, take_frame, fill, upgrade, store, load, fill_mirror, look, empty_mirror, raise_flag, pin_page, make_handle, move_in, move_out, give_handle, take_handle, unpin_page, begin_fork, count_page, share_entry, share_mark, share_child, end_fork, break_entry, put_entry, count_one, set_mark, clear_entry, count_moved, place_frame, get_reference, restore_entry, put_reference, lower_entry, protect_pages, drop_entry, discard_entry, pass_page, fail_fork, fail_unborn, put_child, copy_word, enter_walk, read_sequence, read_entry, grab_frame, miss_frame, recheck_same, recheck_other, read_mark, read_again, drop_grab, drop_last, drop_first, leave_walk}
+use Rattle.gup_spec_events.specs.Event.{CoreEvent, entry_of, map_pages, take_frame, fill, upgrade, store, load, fill_mirror, look, empty_mirror, raise_flag, pin_page, make_handle, move_in, move_out, give_handle, take_handle, unpin_page, begin_fork, count_page, share_entry, share_mark, share_child, end_fork, break_entry, put_entry, count_one, set_mark, clear_entry, count_moved, place_frame, get_reference, restore_entry, put_reference, lower_entry, protect_pages, drop_entry, discard_entry, add_table, take_out, reclaim, pass_page, fail_fork, fail_unborn, put_child, copy_word, enter_walk, read_sequence, read_entry, grab_frame, miss_frame, recheck_same, recheck_other, read_mark, read_again, drop_grab, drop_last, drop_first, leave_walk}
 
 abbrev pub first_born : ℕ → Bool
 first_born p = p == 0
@@ -14,11 +15,18 @@ first_born p = p == 0
 abbrev pub taken_page : Bool → Taken
 taken_page write = record { proc = 0; page = 7; frame = 3; object = 0; write = write; long = false }
 
--- of process 0 with the children 1 to 5, over 2 movable and 8 normal frames
-abbrev pub one_run : List CoreEvent
-one_run =
-    map_pages 0 0 7 1 RW
-    ∷ take_frame 0 3
+-- process 0 maps a page
+abbrev pub maps_one : List CoreEvent
+maps_one = map_pages 0 0 7 1 RW ∷ []
+
+-- page 7 of a process gets its four tables
+abbrev pub adds_four : (a p first : ℕ) → List CoreEvent
+adds_four a p first = add_table a p 7 first ∷ add_table a p 7 (first + 1) ∷ add_table a p 7 (first + 2) ∷ add_table a p 7 (first + 3) ∷ []
+
+-- it is filled, pinned and walked, and a fork into process 1 lowers its entry
+abbrev pub pins_one : List CoreEvent
+pins_one =
+    take_frame 0 3
     ∷ fill 0 0 7 3
     ∷ upgrade 0 0 7 3
     ∷ store 0 0 7 5 3 9
@@ -80,7 +88,12 @@ one_run =
     ∷ drop_last 6 0 false false 0 [] (taken_page false)
     ∷ read_again 6 0 false false 0 stopped 1
     ∷ leave_walk 6 0 false false 0
-    ∷ share_child 0 0 1 [] 7 3 false
+    ∷ []
+
+-- the child shares it and has its frame moved, and forks into process 4
+abbrev pub shares_one : List CoreEvent
+shares_one =
+    share_child 0 0 1 [] 7 3 false
     ∷ end_fork 0 0 1 (7 ∷ [])
     ∷ take_frame 0 4
     ∷ break_entry 0 0 7 3 4 false true
@@ -113,7 +126,12 @@ one_run =
     ∷ count_page 1 1 4 [] 7 (entry_of 6 false) false
     ∷ share_entry 1 1 4 [] 7 6 false
     ∷ share_mark 1 1 4 [] 7 6 false
-    ∷ share_child 1 1 4 [] 7 6 false
+    ∷ []
+
+-- that fork fails, a last one copies a word, and of process 0, which has no page left, a table is taken out
+abbrev pub fails_one : List CoreEvent
+fails_one =
+    share_child 1 1 4 [] 7 6 false
     ∷ fail_fork 1 1 4 (7 ∷ []) between false
     ∷ put_child 1 1 4 (7 ∷ []) 7 (entry_of 6 false) true
     ∷ count_one 1 1 7 6 false
@@ -125,4 +143,10 @@ one_run =
     ∷ count_page 1 1 5 [] 7 (entry_of 6 false) true
     ∷ take_frame 1 7
     ∷ copy_word 1 1 5 [] 7 0 7 (entry_of 6 false)
+    ∷ take_out 0 0 7 3
+    ∷ reclaim 0 0
     ∷ []
+
+-- of process 0 with the children 1 to 5, over 2 movable and 8 normal frames and 12 tables
+abbrev pub one_run : List CoreEvent
+one_run = maps_one ++ (adds_four 0 0 0 ++ (pins_one ++ (adds_four 0 1 4 ++ (shares_one ++ (adds_four 1 4 8 ++ fails_one)))))

@@ -2,7 +2,7 @@
 //! its events, and what is published of its states holds of each.
 #![tactic(auto)]
 
-ghost use Rattle.std.specs.Prelude.{◌≡◌, ℕ, Bool, List};
+ghost use Rattle.std.specs.Prelude.{◌≡◌, ℕ, Bool, true, List};
 ghost use Rattle.gup_plain.specs.State.{plain_start as plain_start};
 ghost use Rattle.gup_spec_events.specs.State.{CoreState, core_start, plain_of};
 ghost use Rattle.gup_spec_events.specs.Event.{CoreEvent, Can};
@@ -15,7 +15,7 @@ ghost use Rattle.gup_exec_plain.specs.LastWrite.{ArePossible, after};
 
 /// The start of the core machine is sound.
 pub fn starts_sound()
-    ensures { (movable normal tables : ℕ) (is_born : ℕ → Bool) → IsSound (core_start movable normal tables is_born) }
+    ensures { (movable normal tables : ℕ) (needs_tables : Bool) (is_born : ℕ → Bool) → IsSound (core_start movable normal tables needs_tables is_born) }
 {}
 
 /// A core event that can happen in a sound state leaves a sound state, and does its plain event to the plain state.
@@ -45,14 +45,15 @@ pub fn sound_states_hold()
 /// lead to, and the plain events that stand at them are a plain list, which leads to the plain state that it stands
 /// for.
 pub fn core_runs_hold()
-    ensures holds { (movable normal tables : ℕ) (is_born : ℕ → Bool) (es : List CoreEvent) → AllCan (core_start movable normal tables is_born) es → Holds (run (core_start movable normal tables is_born) es) }
-    ensures plain { (movable normal tables : ℕ) (is_born : ℕ → Bool) (es : List CoreEvent) → AllCan (core_start movable normal tables is_born) es → ArePossible (plain_start is_born) (all_told es) }
-    ensures stands { (movable normal tables : ℕ) (is_born : ℕ → Bool) (es : List CoreEvent) → AllCan (core_start movable normal tables is_born) es → plain_of (run (core_start movable normal tables is_born) es) ≡ after (plain_start is_born) (all_told es) }
+    ensures holds { (movable normal tables : ℕ) (needs_tables : Bool) (is_born : ℕ → Bool) (es : List CoreEvent) → AllCan (core_start movable normal tables needs_tables is_born) es → Holds (run (core_start movable normal tables needs_tables is_born) es) }
+    ensures plain { (movable normal tables : ℕ) (needs_tables : Bool) (is_born : ℕ → Bool) (es : List CoreEvent) → AllCan (core_start movable normal tables needs_tables is_born) es → ArePossible (plain_start is_born) (all_told es) }
+    ensures stands { (movable normal tables : ℕ) (needs_tables : Bool) (is_born : ℕ → Bool) (es : List CoreEvent) → AllCan (core_start movable normal tables needs_tables is_born) es → plain_of (run (core_start movable normal tables needs_tables is_born) es) ≡ after (plain_start is_born) (all_told es) }
 {
     simulates();
 }
 
-/// The laws are not empty: a run with nearly every kind of event can happen, each event when it does.
+/// The laws are not empty: a run with nearly every kind of event can happen, each event when it does, where a page has to have
+/// its tables before it gets an entry.
 pub fn runs_are_possible()
-    ensures { AllCan (core_start 2 8 8 first_born) one_run }
+    ensures { AllCan (core_start 2 8 12 true first_born) one_run }
 {}

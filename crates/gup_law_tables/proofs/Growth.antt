@@ -80,7 +80,8 @@ module _ (a p page : ℕ) (within : page < page_numbers) where
   one_can : (s : CoreState) → MayShape s a p → IsSome (s.right p page) → 0 < lacks (tree_in s p) page → (table : ℕ) → s.free_table table ≡ true → AllCan s (adds_one a p page (Some table))
   one_can s may mapped some table free = ((may, mapped, within, free, some), tt)
 
-  one_fewer : (s : CoreState) → TablesStand s → 0 < lacks (tree_in s p) page → (table : ℕ) → table < table_numbers → s.free_table table ≡ true → lacks (tree_in (happens s (add_table a p page table)) p) page + 1 ≡ lacks (tree_in s p) page
+  pub one_fewer : (s : CoreState) → TablesStand s → 0 < lacks (tree_in s p) page → (table : ℕ) → table < table_numbers → s.free_table table ≡ true
+      → lacks (tree_in (happens s (add_table a p page table)) p) page + 1 ≡ lacks (tree_in s p) page
   one_fewer s stand some table small free =
       let own : (p == p) ≡ true = grind (arith, nat_tests) in
       let new = unplaced s.free_table s.place s.retired stand (tree_in s p) p page table refl free within some p in

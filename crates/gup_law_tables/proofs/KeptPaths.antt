@@ -12,7 +12,7 @@ use Rattle.gup_law_tables.specs.Standing.{TablesStand}
 use Rattle.gup_law_tables.proofs.Owners.{unplaced}
 use Rattle.gup_law_tables.proofs.Entries.{full_added, full_removed}
 
-added_full : (s : CoreState) (p on table : ℕ) → TablesStand s → on < page_numbers → s.free_table table ≡ true → 0 < lacks (tree_in s p) on → (q page : ℕ) → lacks (tree_in s q) page ≡ 0 → lacks (tree_in (record s { place = put2 p table (Some (on_path (lacks (tree_in s p) on) on)) s.place; free_table = put table false s.free_table }) q) page ≡ 0
+pub added_full : (s : CoreState) (p on table : ℕ) → TablesStand s → on < page_numbers → s.free_table table ≡ true → 0 < lacks (tree_in s p) on → (q page : ℕ) → lacks (tree_in s q) page ≡ 0 → lacks (tree_in (record s { place = put2 p table (Some (on_path (lacks (tree_in s p) on) on)) s.place; free_table = put table false s.free_table }) q) page ≡ 0
 added_full s p on table stand within free some q page full =
     ⊎_elim
     (λ (here : q ≡ p).
@@ -22,7 +22,7 @@ added_full s p on table stand within free some q page full =
     (λ (away : q ≢ p). let test : (q == p) ≡ false = grind (arith, nat_tests) in rw test full)
     (cases_eq q p)
 
-removed_full : (s : CoreState) (p on table : ℕ) → TablesStand s → detachable (tree_in s p) on ≡ Some table → (q page : ℕ) (e : Entry) → s.entry q page ≡ Some e → lacks (tree_in s q) page ≡ 0 → lacks (tree_in (record s { place = put2 p table None s.place; retired = put p (s.retired p ++ table ∷ []) s.retired }) q) page ≡ 0
+pub removed_full : (s : CoreState) (p on table : ℕ) → TablesStand s → detachable (tree_in s p) on ≡ Some table → (q page : ℕ) (e : Entry) → s.entry q page ≡ Some e → lacks (tree_in s q) page ≡ 0 → lacks (tree_in (record s { place = put2 p table None s.place; retired = put p (s.retired p ++ table ∷ []) s.retired }) q) page ≡ 0
 removed_full s p on table stand out q page e mapped full =
     ⊎_elim
     (λ (here : q ≡ p).

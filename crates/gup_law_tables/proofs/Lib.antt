@@ -7,3 +7,5 @@ pub mod Growth
 pub mod Somewhere
 pub mod Entries
 pub mod KeptPaths
+pub mod Paths
+pub mod FourTables

@@ -30,7 +30,7 @@ both_false b c left right = rw (left, right) refl
 pub here2 : (p table : ℕ) (x : Option Place) (place : ℕ → ℕ → Option Place) → put2 p table x place p ≡ put table x (place p)
 here2 p table x place = let test : (p == p) ≡ true = grind (arith, nat_tests) in rw test refl
 
-away2 : (p table : ℕ) (x : Option Place) (place : ℕ → ℕ → Option Place) (q : ℕ) → q ≢ p → put2 p table x place q ≡ place q
+pub away2 : (p table : ℕ) (x : Option Place) (place : ℕ → ℕ → Option Place) (q : ℕ) → q ≢ p → put2 p table x place q ≡ place q
 away2 p table x place q apart = let test : (q == p) ≡ false = grind (arith, nat_tests) in rw test refl
 
 -- at each process where one changes: the one itself, and the others

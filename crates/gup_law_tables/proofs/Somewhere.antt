@@ -112,8 +112,8 @@ not_lost s (drop_first a p write long sequence first left) other can is = is
 not_lost s (leave_walk a p write long sequence) other can is = is
 
 -- from the start on, where each is free
-pub first_free : (movable normal tables : ℕ) (is_born : ℕ → Bool) (table : ℕ) → table < tables → IsSomewhere (core_start movable normal tables is_born) table
-first_free movable normal tables is_born table small = inl (grind (arith, nat_tests))
+pub first_free : (movable normal tables : ℕ) (needs_tables : Bool) (is_born : ℕ → Bool) (table : ℕ) → table < tables → IsSomewhere (core_start movable normal tables needs_tables is_born) table
+first_free movable normal tables needs_tables is_born table small = inl (grind (arith, nat_tests))
 
 pub not_lost_run : (s : CoreState) (es : List CoreEvent) (table : ℕ) → AllCan s es → IsSomewhere s table → IsSomewhere (run s es) table
 not_lost_run s [] table can is = is

@@ -17,8 +17,8 @@ no_tree = record {
   linked = λ table at there. absurd cc;
 }
 
-pub first_stand : (movable normal tables : ℕ) (is_born : ℕ → Bool) → tables ≤ table_numbers → TablesStand (core_start movable normal tables is_born)
-first_stand movable normal tables is_born few = record {
+pub first_stand : (movable normal tables : ℕ) (needs_tables : Bool) (is_born : ℕ → Bool) → tables ≤ table_numbers → TablesStand (core_start movable normal tables needs_tables is_born)
+first_stand movable normal tables needs_tables is_born few = record {
   trees = λ p. no_tree;
   free_small = λ table is. grind (arith, nat_tests);
   taken = λ p table had. absurd cc;

@@ -1,8 +1,10 @@
 -- What is true of the page tables of every state that the core machine reaches.
 use Rattle.std.specs.Prelude.{◌≡◌, ℕ, ◌<◌, ◌≤◌, ◌||◌, ◌⊎◌, Bool, true, false, is_some, List, Option, Some, None, IsSome}
+use Rattle.gup_base.specs.declared.entry.Allowed.{Allowed}
+use Rattle.gup_base.specs.declared.entry.Entry.{Entry}
 use Rattle.gup_spec_tables.specs.declared.place.Place.{Place}
-use Rattle.gup_spec_tables.specs.Tables.{table_numbers, table_at, above, is_among, AreApart}
-use Rattle.gup_spec_events.specs.State.{CoreState}
+use Rattle.gup_spec_tables.specs.Tables.{table_numbers, table_at, above, lacks, is_among, AreApart}
+use Rattle.gup_spec_events.specs.State.{CoreState, Counted, Job, moving}
 
 -- The tables of one process stand at different places of the four levels, each but the root below another, and the root
 -- over all pages.
@@ -40,3 +42,16 @@ IsSomewhere s table = (s.free_table table ≡ true) ⊎ ((p : ℕ) × (has_table
 -- the state is the other one, but for its tables
 abbrev pub IsButForTables : (s t : CoreState) → Type 0
 IsButForTables s t = t ≡ record s { free_table = t.free_table; place = t.place; retired = t.retired }
+
+-- how many tables of its path a page lacks in a tree
+abbrev pub lacking : (place : ℕ → Option Place) → (page : ℕ) → ℕ
+lacking place page = lacks (record { entry = λ _. None; place = place; tables = 0; room = 0 }) page
+
+-- Each page with an entry lacks no table, and neither does one whose entry is cleared, to be moved and put back.
+pub record HavePaths (place : ℕ → ℕ → Option Place) (entry : ℕ → ℕ → Option Entry) (job : ℕ → Job) : Type 0 where
+  pub entered : (p page : ℕ) (e : Entry) → entry p page ≡ Some e → lacking (place p) page ≡ 0
+  pub cleared : (a p page : ℕ) (e : Entry) (allowed : Allowed) (count : Counted) → job a ≡ moving p page e allowed count → lacking (place p) page ≡ 0
+
+-- so it is where entries need tables
+abbrev pub EntriesStand : CoreState → Type 0
+EntriesStand s = s.needs_tables ≡ true → HavePaths s.place s.entry s.job

@@ -10,13 +10,14 @@ ghost use Rattle.gup_spec_events.specs.State.{CoreState, core_start};
 ghost use Rattle.gup_spec_events.specs.Event.{CoreEvent, Can, happens, run, tree_in, MayShape};
 ghost use Rattle.gup_spec_events.specs.Growth.{grows, has_enough, reclaims, retires};
 ghost use Rattle.gup_spec_events.specs.Invariant.{AllCan};
-ghost use Rattle.gup_law_tables.specs.Standing.{TablesStand, has_table, IsSomewhere, IsButForTables};
+ghost use Rattle.gup_law_base.specs.Sound.{IsSound};
+ghost use Rattle.gup_law_tables.specs.Standing.{TablesStand, has_table, IsSomewhere, IsButForTables, EntriesStand};
 
 /// Each process has a tree of tables, and each table is free or of one process, which has it in its tree or has taken it out of
 /// that. An event leaves it so, and from the start on it is so after whatever events, each when it can happen.
 pub fn tables_stand()
     ensures event { (s : CoreState) (e : CoreEvent) → TablesStand s → Can s e → TablesStand (happens s e) }
-    ensures run { (movable normal tables : ℕ) (is_born : ℕ → Bool) (es : List CoreEvent) → tables ≤ table_numbers → AllCan (core_start movable normal tables is_born) es → TablesStand (run (core_start movable normal tables is_born) es) }
+    ensures run { (movable normal tables : ℕ) (needs_tables : Bool) (is_born : ℕ → Bool) (es : List CoreEvent) → tables ≤ table_numbers → AllCan (core_start movable normal tables needs_tables is_born) es → TablesStand (run (core_start movable normal tables needs_tables is_born) es) }
 {}
 
 /// While a walk of a process runs, the process keeps each table that it has: such a table may leave the tree, and is then kept
@@ -47,10 +48,17 @@ pub fn tables_shrink()
 /// No table is lost: one that is free, or that a process has, is so after whatever event, and from the start on each is.
 pub fn no_table_is_lost()
     ensures event { (s : CoreState) (e : CoreEvent) (table : ℕ) → Can s e → IsSomewhere s table → IsSomewhere (happens s e) table }
-    ensures run { (movable normal tables : ℕ) (is_born : ℕ → Bool) (es : List CoreEvent) (table : ℕ) → AllCan (core_start movable normal tables is_born) es → table < tables → IsSomewhere (run (core_start movable normal tables is_born) es) table }
+    ensures run { (movable normal tables : ℕ) (needs_tables : Bool) (is_born : ℕ → Bool) (es : List CoreEvent) (table : ℕ) → AllCan (core_start movable normal tables needs_tables is_born) es → table < tables → IsSomewhere (run (core_start movable normal tables needs_tables is_born) es) table }
 {}
 
 /// A page with an entry that lacks no table lacks none after whatever event: only empty tables are taken out.
 pub fn entries_keep_tables()
     ensures { (s : CoreState) (e : CoreEvent) (p page : ℕ) (entry : Entry) → TablesStand s → Can s e → s.entry p page ≡ Some entry → lacks (tree_in s p) page ≡ 0 → lacks (tree_in (happens s e) p) page ≡ 0 }
+{}
+
+/// Where entries need tables, a page with an entry lacks none, and neither does one whose entry is cleared to be moved: at the
+/// start, and after each event of a sound state in which it is so.
+pub fn entries_stand()
+    ensures start { (movable normal tables : ℕ) (needs_tables : Bool) (is_born : ℕ → Bool) → EntriesStand (core_start movable normal tables needs_tables is_born) }
+    ensures event { (s : CoreState) (e : CoreEvent) → IsSound s → TablesStand s → EntriesStand s → Can s e → EntriesStand (happens s e) }
 {}

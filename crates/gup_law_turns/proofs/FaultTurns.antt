@@ -22,7 +22,7 @@ use Rattle.gup_spec_turns.specs.PinTurns.{pin_fault}
 use Rattle.gup_law_turns.proofs.CalmStates.{IsCalm, Strand, AreTurnEvents, taking, filling, counting_one, marking_it, upgrading, breaking, putting}
 use Rattle.gup_law_turns.proofs.Puts.{put_same, put_other, put2_same}
 use Rattle.gup_law_turns.proofs.TurnShapes.{AtRest, unprepared, at_rest}
-use Rattle.gup_law_turns.proofs.ShownTurns.{IsOpen}
+use Rattle.gup_law_turns.proofs.ShownTurns.{IsOpen, flat_tables}
 
 -- a page with an entry, seen as that
 pub entry_there : (entry : Option Entry) → IsSome entry → entry ≡ Some (entry_of (frame_in entry) (allows_store entry))
@@ -51,6 +51,7 @@ pub record MayFault (s : CoreState) (a p : ℕ) : Type 0 where
   pub calm : IsCalm s
   pub birth : s.birth p ≡ born
   pub job : s.job a ≡ idle
+  pub flat : s.needs_tables ≡ false
   pub counted : (page : ℕ) (e : Entry) → s.entry p page ≡ Some e → s.count e.frame ≡ 0 → ⊥
   pub marked : (page : ℕ) (e : Entry) → s.entry p page ≡ Some e → e.writable ≡ true → s.mark e.frame ≡ true
 
@@ -61,6 +62,7 @@ may_fault s a p h job =
       calm = h.calm;
       birth = h.birth;
       job = job;
+      flat = h.flat;
       counted = λ page e is. entry_counted s p page e h.sound is;
       marked = λ page e is. h.sound.1.entry_marked p page e (h.sound.1.whole_entry p page e is);
     }
@@ -135,7 +137,7 @@ module _ (s : CoreState) (a p : ℕ) (h : MayFault s a p) where
     filled f found named none =
         record {
           kinds = λ strand. (taking f, (filling page f, tt));
-          can = (can_take f found, ((h.birth, free, h.job, named, none, put_same a (Some f) s.prepared), tt));
+          can = (can_take f found, ((h.birth, free, h.job, named, none, put_same a (Some f) s.prepared, flat_tables s p page h.flat), tt));
           rest = at_rest (run s (take_frame a f ∷ fill a p page f ∷ [])) a (put_same a None (put a (Some f) s.prepared)) h.rest.owed;
           job = h.job;
           birth = h.birth;

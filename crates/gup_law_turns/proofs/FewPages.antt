@@ -187,8 +187,8 @@ few_handles n s a handle [] kinds h = h
 few_handles n s a handle (e ∷ es) kinds h = few_handles n (happens s e) a handle es kinds.1 (few_handle n s a handle e kinds.0 h)
 
 -- at the start there are none
-pub few_first : (n movable normal tables : ℕ) (is_born : ℕ → Bool) → IsFew n (core_start movable normal tables is_born)
-few_first n movable normal tables is_born =
+pub few_first : (n movable normal tables : ℕ) (needs_tables : Bool) (is_born : ℕ → Bool) → IsFew n (core_start movable normal tables needs_tables is_born)
+few_first n movable normal tables needs_tables is_born =
     let none = mapped_none (λ _. None) (λ k. refl) in
     record {
       mapped = λ p. omega (arith, none);

@@ -29,7 +29,7 @@ use Rattle.gup_law_turns.proofs.KeptPages.{pages_leave}
 use Rattle.gup_law_turns.proofs.Puts.{put_same, put2_same, none_of}
 use Rattle.gup_law_turns.proofs.PageSearches.{free_frame_free, lowest_some, lowest_none, IsLowest}
 use Rattle.gup_law_turns.proofs.TurnShapes.{references_of, AtFirst, IsBegun, FitsFork, FitsOp, TurnOf, began, passed_page, counted_page, shared_page, ended, counted_copy, took_frame, copied_word, placed_copy, failed_fork, AtRest, unprepared, at_rest}
-use Rattle.gup_law_turns.proofs.ShownTurns.{IsOpen, IsTurned, both_free, table_free}
+use Rattle.gup_law_turns.proofs.ShownTurns.{IsOpen, IsTurned, both_free, flat_tables, table_free}
 
 -- a fork's shape, by the places where it stands before and after the turn
 shape_from : (s t : CoreState) (who : Doer) (child : ℕ) (place : Place) (whats : List What) (from to : JobPlace) → place_in s who.actor ≡ from → place_in t who.actor ≡ to → TurnOf (plain_of s) (references_of s) who place (Fork child) from whats to → TurnOf (plain_of s) (references_of s) who place (Fork child) (place_in s who.actor) whats (place_in t who.actor)
@@ -294,7 +294,7 @@ module _ (s : CoreState) (who : Doer) (child : ℕ) (place : Place) (h : IsOpen 
             kinds = (sharing_entry done page f writable, (sharing_mark done page f false, (sharing_child done page f false, tt)));
             can = (
               (job, lowers, no_mirror_at s p page h.calm),
-              ((put_same a (forking p child done (lowered page)) s.job, lies), ((put_same a (forking p child done (cleared page)) one.job, lies), tt)),
+              ((put_same a (forking p child done (lowered page)) s.job, lies), ((put_same a (forking p child done (cleared page)) one.job, lies, flat_tables s child page h.flat), tt)),
             );
             rest = at_rest t a none h.rest.owed;
             told = refl;
@@ -400,7 +400,7 @@ module _ (s : CoreState) (who : Doer) (child : ℕ) (place : Place) (h : IsOpen 
             record {
               done = record {
                 kinds = (placing done page to rights, tt);
-                can = ((whole, has, rights_are (s.right child page) kept.mapped), tt);
+                can = ((whole, has, rights_are (s.right child page) kept.mapped, flat_tables s child page h.flat), tt);
                 rest = at_rest t a none h.rest.owed;
                 told = refl;
               };

@@ -476,6 +476,7 @@ module _ (s : CoreState) (who : Doer) (place : Place) (h : IsOpen s who.actor wh
           calm = record { unmirrored = may.calm.unmirrored };
           birth = may.birth;
           job = may.job;
+          flat = may.flat;
           counted = may.counted;
           marked = may.marked;
         }

@@ -288,6 +288,7 @@ is_standing published script valid r h =
       sound = k.sound;
       holds = published s k.sound;
       tables = k.tables;
+      flat = k.flat;
       declared = k.declared;
       mapped = λ p page e is. entry_mapped s p page e k.sound (k.emptied p page) is (s.right p page) refl;
       counted = λ p page e is none. entry_counted s p page e k.sound is none;

@@ -44,6 +44,8 @@ IsAhead place k = (place.answered < k) ⊎ ((place.answered ≡ k) × (place.far
 pub record Stands (script : ScriptValue) (r : RunState) : Type 0 where
   pub sound : IsSound r.core
   pub tables : TablesStand r.core
+  -- entries need no tables
+  pub flat : r.core.needs_tables ≡ false
   -- no slot past the last one is filled
   pub slots : (m f : ℕ) → r.core.mirrored m ≡ Some f → m < most_mirrors
   pub there : AreCountedThere r.core

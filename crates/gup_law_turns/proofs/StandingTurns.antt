@@ -21,6 +21,7 @@ use Rattle.gup_spec_events.specs.State.{CoreState, Job, idle, forking, between, 
 use Rattle.gup_spec_events.specs.Event.{run}
 use Rattle.gup_law_base.specs.Sound.{IsSound}
 use Rattle.gup_spec_tables.specs.Tables.{table_numbers}
+use Rattle.gup_spec_events.proofs.Runs.{flag_after}
 use Rattle.gup_law_tables.proofs.TableRuns.{first_stand, stand_run}
 use Rattle.gup_spec_journal.specs.Denial.{References}
 use Rattle.gup_spec_journal.specs.Order.{plain_behind}
@@ -616,6 +617,7 @@ module _ (script : ScriptValue) (valid : IsScript script) (r : RunState) (h : St
       record {
         sound = (leads law s turn.events h.sound turns.done.can).sound;
         tables = stand_run s turn.events h.tables turns.done.can;
+        flat = flag_after s turn.events ∙ h.flat;
         slots = stays_within s a p c (strand_of op) turn.events turns.done.kinds h.slots;
         there = stays_counted law s a p c (strand_of op) turn.events turns.done.kinds h.sound turns.done.can h.there;
         rest = rest_on;
@@ -678,7 +680,7 @@ plain_can law script valid r h a =
 
 -- the start of the core machine is sound
 abbrev pub Starts : Type 0
-Starts = (movable normal tables : ℕ) (is_born : ℕ → Bool) → IsSound (core_start movable normal tables is_born)
+Starts = (movable normal tables : ℕ) (needs_tables : Bool) (is_born : ℕ → Bool) → IsSound (core_start movable normal tables needs_tables is_born)
 
 -- a process that is born at the start is declared
 starts_declared : (script : ScriptValue) (p : ℕ) (process : Option Process) → process_at script p ≡ process → ((if is_born process then born else unborn) ≡ unborn → ⊥) → p < length script.processes
@@ -699,12 +701,13 @@ stands_first starts script valid =
     let unforked : (a k child : ℕ) → ForksAt script a k child → (run_start script).core.birth child ≡ unborn =
     λ a k child forks. starts_unborn (process_at script child) (child_is script valid a k child forks) in
     record {
-      sound = starts script.frames.movable script.frames.normal script.frames.tables (starts_born script);
-      tables = first_stand script.frames.movable script.frames.normal script.frames.tables (starts_born script) (few_tables script valid);
+      sound = starts script.frames.movable script.frames.normal script.frames.tables false (starts_born script);
+      tables = first_stand script.frames.movable script.frames.normal script.frames.tables false (starts_born script) (few_tables script valid);
+      flat = refl;
       slots = λ m f filled. absurd (cc filled);
       there = λ f some. absurd (some refl);
       rest = λ a. record { prepared = refl; owed = refl };
-      few = few_first (length script.processes) script.frames.movable script.frames.normal script.frames.tables (starts_born script);
+      few = few_first (length script.processes) script.frames.movable script.frames.normal script.frames.tables false (starts_born script);
       emptied = λ p page is. refl;
       declared = λ p. starts_declared script p (process_at script p) refl;
       fits = λ a. fresh_fits script valid (run_start script).core (doer_of script a (present_op script a first_place)) a 0 (refl, refl) (unforked a 0) (λ h makes. refl) (λ h holds. absurd (cc holds));

@@ -129,7 +129,7 @@ record CanTake (s : CoreState) (who : Doer) (place : Place) (op : Op) : Type 0 w
 
 module _ (s : CoreState) (who : Doer) (place : Place) (quiet : IsQuiet s who.actor) where
   opened : s.birth who.proc ≡ born → IsOpen s who.actor who.proc
-  opened birth = record { sound = quiet.sound; calm = quiet.calm; there = quiet.there; rest = quiet.rest; birth = birth }
+  opened birth = record { sound = quiet.sound; calm = quiet.calm; there = quiet.there; rest = quiet.rest; flat = quiet.flat; birth = birth }
 
   -- the turn of any operation but a mirror and a look
   op_turned : (op : Op) → CanTake s who place op → IsTurned s who place op (op_turn s who.actor who.proc who.slots place.far op)
@@ -294,6 +294,7 @@ record IsQuietly (s : CoreState) (a : ℕ) : Type 0 where
   there : AreCountedThere s
   rest : AtRest s a
   tables : TablesStand s
+  flat : s.needs_tables ≡ false
 
 calmed_quiet : (s : CoreState) (a : ℕ) → IsQuietly s a → IsQuiet (calmed s) a
 calmed_quiet s a h =
@@ -302,6 +303,7 @@ calmed_quiet s a h =
       calm = calmed_calm s;
       there = h.there;
       rest = record { prepared = h.rest.prepared; owed = h.rest.owed };
+      flat = h.flat;
     }
 
 calmed_known : (s : CoreState) (who : Doer) (place : Place) (op : Option Op) → IsKnown s who place op → IsKnown (calmed s) who place op
@@ -406,6 +408,7 @@ quiet_tabled s t a same stand h =
       there = subst AreCountedThere (sym same) h.there;
       rest = subst (λ (y : CoreState). AtRest y a) (sym same) rest;
       tables = stand;
+      flat = subst (λ (y : CoreState). y.needs_tables ≡ false) (sym same) h.flat;
     }
 
 known_tabled : (s t : CoreState) (who : Doer) (place : Place) (op : Option Op) → IsButForTables s t → IsKnown s who place op → IsKnown t who place op
@@ -527,7 +530,7 @@ take_slots s who place (Some op) None quiet h is = op_slots s who place op quiet
 
 -- what is known of the turn of an actor
 is_quietly : (script : ScriptValue) (r : RunState) → Stands script r → (a : ℕ) → IsQuietly r.core a
-is_quietly script r h a = record { sound = h.sound; slots = h.slots; there = h.there; rest = h.rest a; tables = h.tables }
+is_quietly script r h a = record { sound = h.sound; slots = h.slots; there = h.there; rest = h.rest a; tables = h.tables; flat = h.flat }
 
 is_known : (script : ScriptValue) → IsScript script → (r : RunState) → Stands script r → (a : ℕ) → IsKnown r.core (doer_of script a (op_in script r a)) (r.places a) (op_in script r a)
 is_known script valid r h a =

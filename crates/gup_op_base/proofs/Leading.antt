@@ -24,7 +24,7 @@ notes_alike {X} {Shows} {Stands} {old} {new} {turn} {whats} {other} same h =
 -- a state of these frames, in which each process is this one
 abbrev pub state_of : FramesValue → SpaceValue → CoreState
 state_of F S =
-    record (core_start F.movable F.normal 0 (λ _. true)) {
+    record (core_start F.movable F.normal 0 false (λ _. true)) {
       count = F.count;
       mark = F.mark;
       word = F.word;

@@ -259,6 +259,10 @@ step_left (t ∷ taken) = dropping
 abbrev pub tree_in : CoreState → (p : ℕ) → TreeValue
 tree_in s p = record { entry = s.entry p; place = s.place p; tables = placed_tables (s.place p); room = table_numbers }
 
+-- may the page get an entry? It lacks no table of its path, or needs none.
+abbrev pub has_tables : CoreState → (p page : ℕ) → Bool
+has_tables s p page = if s.needs_tables then lacks (tree_in s p) page == 0 else true
+
 -- the child of a running fork, also of one that fails
 abbrev pub child_of : Job → Option ℕ
 child_of (forking p child done step) = Some child
@@ -274,7 +278,7 @@ abbrev pub Can : CoreState → CoreEvent → Type 0
 Can s (take_frame a f) = MayPrepare (s.job a) × (s.prepared a ≡ None) × (f < s.movable + s.normal) × (s.count f ≡ 0)
 Can s (fill a p page f) =
     (s.birth p ≡ born) × AreUnlocked s p × (s.job a ≡ idle) × IsSome (s.right p page) × (s.entry p page ≡ None)
-    × (s.prepared a ≡ Some f)
+    × (s.prepared a ≡ Some f) × (has_tables s p page ≡ true)
 Can s (count_one a p page f writable) =
     (s.birth p ≡ born) × AreUnlocked s p × IsIdle s a × (s.entry p page ≡ Some (entry_of f writable))
     × (s.mark f ≡ false) × (s.count f ≡ 1)
@@ -321,11 +325,13 @@ Can s (share_mark a p c done page f writable) =
     (s.job a ≡ forking p c done (lowered page)) × (s.entry p page ≡ Some (entry_of f writable))
 Can s (share_child a p c done page f writable) =
     (s.job a ≡ forking p c done (cleared page)) × (s.entry p page ≡ Some (entry_of f writable))
+    × (has_tables s c page ≡ true)
 Can s (copy_word a p c done page word to e) =
     (s.job a ≡ forking p c done (copying page word)) × (word < words) × (s.prepared a ≡ Some to)
     × (s.entry p page ≡ Some e)
 Can s (place_child a p c done page to rights) =
     (s.job a ≡ forking p c done (copying page words)) × (s.prepared a ≡ Some to) × (s.right c page ≡ Some rights)
+    × (has_tables s c page ≡ true)
 Can s (pass_page a p c done page) =
     (s.job a ≡ forking p c done between) × (s.table p ≡ None) × IsSome (s.right c page) × (is_done done page → ⊥)
     × (s.entry p page ≡ None)

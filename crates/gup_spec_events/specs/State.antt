@@ -84,6 +84,8 @@ pub record CoreState : Type 0 where
   pub free_table : ℕ → Bool
   pub place : ℕ → ℕ → Option Place
   pub retired : ℕ → List ℕ
+  -- must a page have its tables before it gets an entry?
+  pub needs_tables : Bool
   -- objects
   pub content : ℕ → ℕ → ℕ
   pub made : ℕ
@@ -125,8 +127,8 @@ plain_of s =
     }
 
 -- the start: all frames and page tables are free and zero, and nothing is mapped
-abbrev pub core_start : (movable normal tables : ℕ) → (ℕ → Bool) → CoreState
-core_start movable normal tables is_born =
+abbrev pub core_start : (movable normal tables : ℕ) → (needs_tables : Bool) → (ℕ → Bool) → CoreState
+core_start movable normal tables needs_tables is_born =
     record {
       movable = movable;
       normal = normal;
@@ -148,6 +150,7 @@ core_start movable normal tables is_born =
       free_table = λ table. nat_lt table tables;
       place = λ _ _. None;
       retired = λ _. [];
+      needs_tables = needs_tables;
       content = λ _ _. 0;
       made = 0;
       handle = λ _. unmade;

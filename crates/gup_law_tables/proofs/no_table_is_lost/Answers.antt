@@ -7,4 +7,4 @@ pub returns-clause-event : goal.returns-clause-event
 returns-clause-event c = λ s e table can is. not_lost s e table can is
 
 pub returns-clause-run : goal.returns-clause-run
-returns-clause-run c = λ movable normal tables is_born es table can small. not_lost_run (core_start movable normal tables is_born) es table can (first_free movable normal tables is_born table small)
+returns-clause-run c = λ movable normal tables needs_tables is_born es table can small. not_lost_run (core_start movable normal tables needs_tables is_born) es table can (first_free movable normal tables needs_tables is_born table small)

@@ -8,4 +8,4 @@ pub returns-clause-event : goal.returns-clause-event
 returns-clause-event c = λ s e stand can. stay s e stand can
 
 pub returns-clause-run : goal.returns-clause-run
-returns-clause-run c = λ movable normal tables is_born es few can. stand_run (core_start movable normal tables is_born) es (first_stand movable normal tables is_born few) can
+returns-clause-run c = λ movable normal tables needs_tables is_born es few can. stand_run (core_start movable normal tables needs_tables is_born) es (first_stand movable normal tables needs_tables is_born few) can
