@@ -25,7 +25,7 @@ module _ (filled : ℕ → Option ℕ) (s : CoreState) where
   parts_with parts h =
       let f = h.frames in
       record {
-        frames = record { movable = f.movable; normal = f.normal; count = f.count; mark = f.mark; word = f.word };
+        frames = record { movable = f.movable; normal = f.normal; count = f.count; mark = f.mark; word = f.word; needs_tables = f.needs_tables };
         spaces = λ p space here.
             let x = h.spaces p space here in
             record { right = x.right; pages = x.pages; entry = x.entry; sequence = x.sequence; has_pinned = x.has_pinned; structure = x.structure; table = x.table; walks = x.walks };

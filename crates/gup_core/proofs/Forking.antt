@@ -1,6 +1,7 @@
 -- The events of a turn of a fork are the fork's own, or a frame is taken for a copy. They are of no pin, and leave other processes,
 -- other births, and where other forks stand.
 use Rattle.std.proofs.Common.{◌≡◌, ℕ, ◌+◌, Bool, true, false, List, [], ◌∷◌, nat_lt, Option, Some, None, zero, suc, refl, ap, ◌∙◌, arith}
+use Rattle.gup_base.specs.declared.entry.Allowed.TheVariants.{Any}
 use Rattle.std.proofs.lemmas.Bool.Decides.{nat_tests}
 use Rattle.gup_base.specs.declared.entry.Entry.{Entry}
 use Rattle.gup_plain.specs.Event.{page_numbers, words}
@@ -9,10 +10,10 @@ use Rattle.gup_space.specs.Shows.{ShowsSpace}
 use Rattle.gup_fork.proofs.ForkAfter.{IsForkEvent, beginning, counting, lowering, unmarking, giving, passing, ending, writing, placing, failing_at, putting}
 use Rattle.gup_fork.proofs.ForkLemmas.{leaves_others, job_stays, birth_stays}
 use Rattle.gup_spec_events.specs.State.{CoreState, Job, idle, forking, ForkStep, between, counted, copying}
-use Rattle.gup_spec_events.specs.Event.{CoreEvent, happens, take_frame, run}
+use Rattle.gup_spec_events.specs.Event.{CoreEvent, happens, take_frame, run, has_tables}
 use Rattle.gup_spec_events.specs.Failure.{are_gone, puts_entry, puts_entries}
-use Rattle.gup_spec_turns.specs.ForkTurns.{page_turn, next_page, next_turn, frame_turn, copy_turn, copying_turn, fork_step_turn, fork_turn}
-use Rattle.gup_spec_turns.specs.CoreTurn.{free_frame}
+use Rattle.gup_spec_turns.specs.ForkTurns.{page_turn, next_page, next_turn, failed_at, share_turn, frame_turn, copy_turn, copying_turn, fork_step_turn, fork_turn}
+use Rattle.gup_spec_turns.specs.CoreTurn.{frame_for}
 use Rattle.gup_spec_turns.specs.JobPlace.{job_place, place_in}
 use Rattle.gup_core.proofs.Owning.{AreAll, through, two_lists, pins_of}
 
@@ -45,9 +46,17 @@ puts_own a p c done entry first (suc n) =
     let ends = are_gone entry (first + 1) n in
     two_lists (IsForking a p c) (puts_entry a p c done first (entry first) ends) (puts_entries a p c done entry (first + 1) n) (put_own a p c done first (entry first) ends) (puts_own a p c done entry (first + 1) n)
 
+failed_own : (s : CoreState) (a p c : ℕ) (done : List ℕ) (step : ForkStep) → AreForking a p c (failed_at s a p c done step).events
+failed_own s a p c done step =
+    (forks _ (failing_at done step (are_gone (s.entry c) 0 page_numbers)), puts_own a p c done (s.entry c) 0 page_numbers)
+
+share_own : (s : CoreState) (a p c : ℕ) (done : List ℕ) (page : ℕ) (entry : Option Entry) (may : Bool) → AreForking a p c (share_turn s a p c done page entry may).events
+share_own s a p c done page entry true =
+    (forks _ (lowering done page _ _), (forks _ (unmarking done page _ false), (forks _ (giving done page _ false), tt)))
+share_own s a p c done page entry false = failed_own s a p c done (counted page)
+
 frame_own : (s : CoreState) (a p c : ℕ) (done : List ℕ) (page word : ℕ) (free : Option ℕ) → AreForking a p c (frame_turn s a p c done page word free).events
-frame_own s a p c done page word None =
-    (forks _ (failing_at done (copying page word) (are_gone (s.entry c) 0 page_numbers)), puts_own a p c done (s.entry c) 0 page_numbers)
+frame_own s a p c done page word None = failed_own s a p c done (copying page word)
 frame_own s a p c done page word (Some f) = (takes f, tt)
 
 copy_own : (s : CoreState) (a p c : ℕ) (done : List ℕ) (page word to : ℕ) (more : Bool) → AreForking a p c (copy_turn s a p c done page word to more).events
@@ -55,12 +64,12 @@ copy_own s a p c done page word to true = (forks _ (writing done page word to _)
 copy_own s a p c done page word to false = (forks _ (placing done page to _), tt)
 
 copying_own : (s : CoreState) (a p c : ℕ) (done : List ℕ) (page word : ℕ) (prepared : Option ℕ) → AreForking a p c (copying_turn s a p c done page word prepared).events
-copying_own s a p c done page word None = frame_own s a p c done page word (free_frame s)
+copying_own s a p c done page word None = frame_own s a p c done page word (frame_for s c page Any)
 copying_own s a p c done page word (Some to) = copy_own s a p c done page word to (nat_lt word words)
 
 step_own : (s : CoreState) (a p c : ℕ) (done : List ℕ) (step : ForkStep) → AreForking a p c (fork_step_turn s a p c done step).events
 step_own s a p c done between = next_own s a p c done (next_page (s.right c) done)
-step_own s a p c done (counted page) = (forks _ (lowering done page _ _), (forks _ (unmarking done page _ false), (forks _ (giving done page _ false), tt)))
+step_own s a p c done (counted page) = share_own s a p c done page (s.entry p page) (has_tables s c page)
 step_own s a p c done (copying page word) = copying_own s a p c done page word (s.prepared a)
 step_own s a p c done step = tt
 

@@ -2,7 +2,7 @@
 use Rattle.std.proofs.Common.{◌==◌, ◌&&◌, ℕ, ◌+◌, Bool, true, false, List, [], ◌∷◌, ◌++◌, length, nat_lt, Option, Some, None, Ok, Err, zero, suc}
 use Rattle.gup_base.specs.Parts.{words_of, word_at}
 use Rattle.gup_base.specs.declared.entry.Allowed.{Allowed}
-use Rattle.gup_base.specs.declared.entry.Allowed.TheVariants.{Only}
+use Rattle.gup_base.specs.declared.entry.Allowed.TheVariants.{Only, Any}
 use Rattle.gup_base.specs.declared.entry.Entry.{Entry}
 use Rattle.gup_base.specs.declared.entry.Rights.{Rights}
 use Rattle.gup_base.specs.declared.entry.Want.{Want}
@@ -16,8 +16,8 @@ use Rattle.gup_plain.specs.declared.note.What.{What}
 use Rattle.gup_plain.specs.declared.note.What.TheVariants.{Event}
 use Rattle.gup_script.specs.declared.op.Op.{Op}
 use Rattle.gup_script.specs.declared.op.Op.TheVariants.{Map, Unmap, Protect, Discard, Load, Store, Pin, Unpin, Give, Get, Put, Transfer, Fork, Exit, Move, Mirror, Look}
-use Rattle.gup_spec_events.specs.State.{CoreState, Job, forking, ForkStep, between, copying, idle, moving, Counted, unread, one, more, walking, Taken, WalkStep, entered, ready, read, grabbed, rechecked, differed, refused, stopped, dropping, over}
-use Rattle.gup_spec_events.specs.Event.{CoreEvent, entry_of, take_frame, put_entry, place_frame, restore_entry, run}
+use Rattle.gup_spec_events.specs.State.{CoreState, Job, forking, ForkStep, between, copying, idle, moving, Counted, unread, one, more, walking, Taken, WalkStep, entered, ready, read, grabbed, rechecked, differed, refused, stopped, dropping, over, counted}
+use Rattle.gup_spec_events.specs.Event.{CoreEvent, entry_of, take_frame, put_entry, place_frame, restore_entry, run, has_tables}
 use Rattle.gup_spec_events.specs.Fault.{Fault}
 use Rattle.gup_spec_journal.specs.Denial.{has_reference}
 use Rattle.gup_spec_turns.specs.Turn.{op_turn, failed_turn, turn_at}
@@ -26,9 +26,9 @@ use Rattle.gup_spec_turns.proofs.TurnParts.{loads_after, stores_after, map_turn_
 use Rattle.gup_spec_turns.specs.PinTurns.{pin_fault, ends_pin, pin_turn_by, but_last, unpinned, got_by, got_frame, raises, moves_first, pins_behind, clears_or_pins, pins_moved, moved_turn, pin_turn_in, begins_or_pins}
 use Rattle.gup_spec_turns.specs.WalkTurns.{all_turn, ready_turn, grab_turn, is_same, recheck_turn, split_last, last_turn, first_turn, walk_turn}
 use Rattle.gup_spec_turns.specs.MoveTurns.{place_turn, counted_turn, move_turn}
-use Rattle.gup_spec_turns.specs.ForkTurns.{page_turn, next_page, next_turn, frame_turn, copy_turn, copying_turn, fork_step_turn, fork_turn}
+use Rattle.gup_spec_turns.specs.ForkTurns.{page_turn, next_page, next_turn, share_turn, frame_turn, copy_turn, copying_turn, fork_step_turn, fork_turn}
 use Rattle.gup_spec_turns.specs.MirrorTurns.{fills as fills_slot, look_turn}
-use Rattle.gup_spec_turns.specs.CoreTurn.{free_frame, free_in, entry_in, zones_of, after_fault}
+use Rattle.gup_spec_turns.specs.CoreTurn.{free_in, frame_for, entry_in, zones_of, after_fault}
 
 abbrev pub NoTwo : List What → Type 0
 NoTwo (Event event ∷ Event next ∷ []) = ⊥
@@ -97,7 +97,7 @@ later_two s a p handle page n got want e (more count) = ends_two (restore_entry 
 
 begins_two : (begins : Bool) (s : CoreState) (a p handle page n got : ℕ) (want : Want) (fast : Bool) → NoTwo (begins_or_pins begins s a p handle page n got want fast).whats
 begins_two true s a p handle page n got want fast = tt
-begins_two false s a p handle page n got want fast = pin_two (pin_fault s a p (page + got) want.write (free_in s (zones_of want))) s a p handle (page + got) n got want fast
+begins_two false s a p handle page n got want fast = pin_two (pin_fault s a p (page + got) want.write (frame_for s p (page + got) (zones_of want))) s a p handle (page + got) n got want fast
 
 -- nor has one of a walk
 all_two : (a p handle n : ℕ) (want : Want) (sequence now : ℕ) (same : Bool) → NoTwo (all_turn a p handle n want sequence now same).whats
@@ -182,6 +182,10 @@ next_two : (s : CoreState) (a p c : ℕ) (done : List ℕ) (next : Option ℕ) �
 next_two s a p c done None = tt
 next_two s a p c done (Some page) = page_two s a p c done page (s.entry p page)
 
+share_two : (s : CoreState) (a p c : ℕ) (done : List ℕ) (page : ℕ) (entry : Option Entry) (may : Bool) → NoTwo (share_turn s a p c done page entry may).whats
+share_two s a p c done page entry true = tt
+share_two s a p c done page entry false = tt
+
 frame_two : (s : CoreState) (a p c : ℕ) (done : List ℕ) (page word : ℕ) (free : Option ℕ) → NoTwo (frame_turn s a p c done page word free).whats
 frame_two s a p c done page word None = tt
 frame_two s a p c done page word (Some f) = tt
@@ -191,11 +195,12 @@ copy_two s a p c done page word to true = tt
 copy_two s a p c done page word to false = tt
 
 copying_two : (s : CoreState) (a p c : ℕ) (done : List ℕ) (page word : ℕ) (prepared : Option ℕ) → NoTwo (copying_turn s a p c done page word prepared).whats
-copying_two s a p c done page word None = frame_two s a p c done page word (free_frame s)
+copying_two s a p c done page word None = frame_two s a p c done page word (frame_for s c page Any)
 copying_two s a p c done page word (Some to) = copy_two s a p c done page word to (nat_lt word words)
 
 step_two : (s : CoreState) (a p c : ℕ) (done : List ℕ) (step : ForkStep) → NoTwo (fork_step_turn s a p c done step).whats
 step_two s a p c done between = next_two s a p c done (next_page (s.right c) done)
+step_two s a p c done (counted page) = share_two s a p c done page (s.entry p page) (has_tables s c page)
 step_two s a p c done (copying page word) = copying_two s a p c done page word (s.prepared a)
 step_two s a p c done step = tt
 

@@ -1,6 +1,7 @@
 -- The events of a turn of one process are of frames and of that process. They bear no process, leave forks where they are,
 -- and are of no pin.
 use Rattle.std.proofs.Common.{◌≡◌, ℕ, ◌+◌, ◌==◌, Bool, true, false, cond, List, [], ◌∷◌, ◌++◌, Option, Some, None, Ok, Err, zero, suc, refl, sym, ap, ◌∙◌, eqb-true, if◌then◌else◌, arith}
+use Rattle.gup_base.specs.declared.entry.Allowed.TheVariants.{Any}
 use Rattle.gup_base.specs.declared.entry.Entry.{Entry}
 use Rattle.gup_base.specs.declared.entry.Rights.{Rights}
 use Rattle.gup_base.specs.declared.entry.Rights.TheVariants.{R, RW}
@@ -17,7 +18,7 @@ use Rattle.gup_spec_events.specs.Fault.{Fault, events_of, fills, fills_writable,
 use Rattle.gup_spec_turns.specs.Turn.{op_turn}
 use Rattle.gup_spec_turns.specs.PageTurns.{load_fault, lowers_entry, lowers, lowers_for, exit_turn_by, lowest_page}
 use Rattle.gup_spec_turns.proofs.TurnParts.{loads_after, store_fault_by, stores_after, map_turn_by, unmap_turn_by, protect_turn_by, discard_turn_by}
-use Rattle.gup_spec_turns.specs.CoreTurn.{allows_store, free_frame}
+use Rattle.gup_spec_turns.specs.CoreTurn.{allows_store, frame_for}
 use Rattle.gup_spec_turns.specs.JobPlace.{job_place, place_in, unbegun}
 use Rattle.gup_op_pages.specs.Alone.{IsAlone}
 
@@ -122,12 +123,12 @@ write_fault_own a p page (Some RW) (Some e) mark count free = by_entry e.writabl
     by_entry false = makes_writable_own a p page e (mark e.frame) (count e.frame) free
 
 pub load_fault_own : (s : CoreState) (a p page : ℕ) (entry : Option Entry) → AreOwn a p (events_of (load_fault s a p page entry))
-load_fault_own s a p page None = read_fault_own a p page (s.right p page) None (free_frame s)
+load_fault_own s a p page None = read_fault_own a p page (s.right p page) None (frame_for s p page Any)
 load_fault_own s a p page (Some e) = tt
 
 store_fault_own : (allowed : Bool) (s : CoreState) (a p page : ℕ) (entry : Option Entry) → AreOwn a p (events_of (store_fault_by allowed s a p page entry))
 store_fault_own true s a p page entry = tt
-store_fault_own false s a p page entry = write_fault_own a p page (s.right p page) entry s.mark s.count (free_frame s)
+store_fault_own false s a p page entry = write_fault_own a p page (s.right p page) entry s.mark s.count (frame_for s p page Any)
 
 load_own : (s : CoreState) (fault : Fault) (a p page word : ℕ) → AreOwn a p (events_of fault) → AreOwn a p (loads_after s fault a p page word).events
 load_own s (Err answer) a p page word own = tt

@@ -18,7 +18,7 @@ use Rattle.gup_space.proofs.After.{IsOf, AreOf, flagging, pinning, making, unpin
 use Rattle.gup_spec_events.specs.State.{CoreState, Taken as TakenPage, Job, idle, marking, moving, walking, Counted, unread, one, more}
 use Rattle.gup_spec_events.specs.Event.{CoreEvent, entry_of, happens, take_frame, put_entry, clear_entry, count_moved, place_frame, restore_entry, raise_flag, pin_page, make_handle, unpin_page, give_handle, take_handle, get_reference, put_reference, move_out, move_in, taken_frames as frames_taken, run}
 use Rattle.gup_spec_events.specs.Fault.{Fault, events_of, unshare_fault, unshares, marks, breaks}
-use Rattle.gup_spec_turns.specs.CoreTurn.{free_in, zones_of, entry_in}
+use Rattle.gup_spec_turns.specs.CoreTurn.{free_in, zones_of, entry_in, frame_for}
 use Rattle.gup_spec_journal.specs.Denial.{has_reference}
 use Rattle.gup_spec_turns.specs.PageTurns.{load_fault}
 use Rattle.gup_spec_turns.specs.PinTurns.{raises, pin_fault, makes_if, ends_pin, pin_turn_by, pin_turn, last_of, but_last, unpin_turn, give_turn, take_turn, get_turn, got_by, got_frame, put_turn, moves_first, pins_behind, clears_or_pins, ends_moved, pins_moved, moved_turn, pin_turn_at, pin_turn_in, begins_or_pins}
@@ -130,7 +130,7 @@ moved_pinning s a p handle page n got want e (more count) = restores_pinning a p
 
 at_pinning : (s : CoreState) (a p handle page n got : ℕ) (want : Want) (fast : Bool) → ArePinning a p (pin_turn_at s a p handle page n got want fast).events
 at_pinning s a p handle page n got want fast =
-    let free : Option ℕ = free_in s (zones_of want) in
+    let free : Option ℕ = frame_for s p (page + got) (zones_of want) in
     pin_pinning (pin_fault s a p (page + got) want.write free) s a p handle (page + got) n got want fast (pin_fault_own s a p (page + got) want.write free)
 
 get_pinning : (s : CoreState) (fault : Fault) (a p handle page : ℕ) → AreOwn a p (events_of fault) → ArePinning a p (gets_after s fault a p handle page).events

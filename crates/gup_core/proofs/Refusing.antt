@@ -116,7 +116,7 @@ no_maps s a p child job prepared sound stands at has g = go job prepared stands 
 
 frames_left : (a p : ℕ) (op : Op) (F : FramesValue) (s : CoreState) {es : List CoreEvent} → IsRefusal a p op es → ShowsFrames F s → ShowsFrames F (run s es)
 frames_left a p op F s nothing h = h
-frames_left a p op F s (fails_too child is) h = record { movable = h.movable; normal = h.normal; count = h.count; mark = h.mark; word = h.word }
+frames_left a p op F s (fails_too child is) h = record { movable = h.movable; normal = h.normal; count = h.count; mark = h.mark; word = h.word; needs_tables = h.needs_tables }
 
 -- a table of which no page has a value has no row
 at_first : (row : ℕ × Rights) (rows : List (ℕ × Rights)) → at (row ∷ rows) row.0 ≡ Some row.1

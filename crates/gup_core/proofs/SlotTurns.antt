@@ -128,10 +128,10 @@ left_mirrors parts a proc far op job old new unfailed within apart leaves s who 
     (slots_left s who a k op own as_it is apart emptied) (slots_noted s who a k op own as_it is apart emptied)
 
 -- a fork that copies a word invalidates no page
-copying_shares_none : (job : Job) (prepared : Option ℕ) (page word to : ℕ) → job_place job prepared ≡ at_word page word to → shared_in job ≡ None
-copying_shares_none (forking q c done (counted g)) prepared page word to is = absurd (cc is)
-copying_shares_none (forking q c done step) prepared page word to is = refl
-copying_shares_none job prepared page word to is = refl
+copying_shares_none : (s : CoreState) (child : ℕ) (job : Job) (prepared : Option ℕ) (page word to : ℕ) → job_place job prepared ≡ at_word page word to → shared_in s child job ≡ None
+copying_shares_none s child (forking q c done (counted g)) prepared page word to is = absurd (cc is)
+copying_shares_none s child (forking q c done step) prepared page word to is = refl
+copying_shares_none s child job prepared page word to is = refl
 
 pub copied_mirrors : (parts : Parts) (a : ℕ) (proc : Option ℕ) (far : ℕ) (op : Op) (job : JobPlace) (copy : WordCopy) (mirrors : MirrorsValue)
     → (HasFailed parts.births.items proc → ⊥) → IfSome proc (λ p. p < length parts.births.items) → IsCopyAt parts.births.items proc job op copy
@@ -144,7 +144,7 @@ copied_mirrors parts a proc far op job copy mirrors unfailed within copies s who
     let is = turn_born parts.births.items proc who t k op unfailed within of_who shown.parts.births stands.free.free in
     let apart : IsNoMirror op = subst (λ (o : Op). IsNoMirror o) (sym copies.is_fork) tt in
     let at : place_in t a ≡ at_word copy.page copy.word copy.to = sym shown.job ∙ ap place_of copies.stands in
-    let none : shared_in (t.job a) ≡ None = copying_shares_none (t.job a) (t.prepared a) copy.page copy.word copy.to at in
+    let none : shared_in t copy.child (t.job a) ≡ None = copying_shares_none t copy.child (t.job a) (t.prepared a) copy.page copy.word copy.to at in
     none_left mirrors t (run s (turn_of s who k op).events) (op_turn t a who.proc who.slots k op).events stands.slots
     (slots_left s who a k op own as_it is apart emptied) (slots_noted s who a k op own as_it is apart emptied)
     (λ m filled is_filled.

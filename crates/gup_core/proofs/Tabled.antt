@@ -1,6 +1,6 @@
 -- Page tables are none of the machine's parts yet: what a state shows it shows whatever tables there are, and so a turn is what it is but
 -- for them.
-use Rattle.std.proofs.Common.{◌≡◌, ℕ, ◌+◌, Bool, List, Option, Some, None, sym, subst, ap, ◌∙◌}
+use Rattle.std.proofs.Common.{ℕ, ◌+◌, Bool, List, Option, Some, None, sym, subst, ap, ◌∙◌}
 use Rattle.gup_base.specs.declared.entry.Want.{Want}
 use Rattle.gup_base.specs.declared.entry.Zone.{Zone}
 use Rattle.gup_plain.specs.declared.note.What.{What}
@@ -38,7 +38,7 @@ module _ (s t : CoreState) (same : IsButForTables s t) where
   parts_beside parts h =
       let f = h.frames in
       record {
-        frames = record { movable = f.movable; normal = f.normal; count = f.count; mark = f.mark; word = f.word };
+        frames = record { movable = f.movable; normal = f.normal; count = f.count; mark = f.mark; word = f.word; needs_tables = f.needs_tables };
         spaces = λ p space here.
             let x = h.spaces p space here in
             record { right = x.right; pages = x.pages; entry = x.entry; sequence = x.sequence; has_pinned = x.has_pinned; structure = x.structure; table = x.table; walks = x.walks };

@@ -22,7 +22,7 @@ pub begins : (F : FramesValue) (S S' : SpaceValue) (w w' : WalkValue) → w.stag
 begins F S S' w w' fresh none walk space s a p old_frames old_space old_walk =
     let after : CoreState = run s (flags a p w) in
     let counted : walks_after w.stage w'.stage S.walks ≡ S.walks + 1 = rw walk (rw fresh refl) in (
-      record { movable = old_frames.movable; normal = old_frames.normal; count = old_frames.count; mark = old_frames.mark; word = old_frames.word },
+      record { movable = old_frames.movable; normal = old_frames.normal; count = old_frames.count; mark = old_frames.mark; word = old_frames.word; needs_tables = old_frames.needs_tables },
       subst (λ (n : ℕ). ShowsSpace p (record S' { walks = n }) after) (sym counted)
           (subst (λ (x : SpaceValue). ShowsSpace p (record x { walks = S.walks + 1 }) after) (sym space)
           (record { right = old_space.right; pages = old_space.pages; entry = old_space.entry; sequence = old_space.sequence; has_pinned = own p true s.has_pinned; structure = old_space.structure; table = old_space.table; walks = own p (s.walks p + 1) s.walks ∙ ap (λ (n : ℕ). n + 1) old_space.walks })),

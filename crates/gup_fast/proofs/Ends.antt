@@ -22,7 +22,7 @@ last_is (f ∷ g ∷ taken) =
 -- the frames of a state where one has lost the weight of a pin
 without_pin : (F : FramesValue) (s : CoreState) (f : ℕ) → ShowsFrames F s → ShowsFrames (without_references f 1024 F) (core_without f 1024 s)
 without_pin F s f h =
-    record { movable = h.movable; normal = h.normal; count = λ g. grind (arith, nat_tests, h.count g, h.count f); mark = λ g. grind (arith, nat_tests, h.mark g, h.mark f, h.count f); word = h.word }
+    record { movable = h.movable; normal = h.normal; count = λ g. grind (arith, nat_tests, h.count g, h.count f); mark = λ g. grind (arith, nat_tests, h.mark g, h.mark f, h.count f); word = h.word; needs_tables = h.needs_tables }
 
 -- ---- the page whose mark was missing
 
@@ -57,7 +57,7 @@ last_goes F S w s a p (t ∷ taken) some frames space =
     rw parts.split
     (rw parts.frame
     (rw parts.frames (
-      record { movable = dropped.movable; normal = dropped.normal; count = dropped.count; mark = dropped.mark; word = dropped.word },
+      record { movable = dropped.movable; normal = dropped.normal; count = dropped.count; mark = dropped.mark; word = dropped.word; needs_tables = dropped.needs_tables },
       record { right = space.right; pages = space.pages; entry = space.entry; sequence = space.sequence; has_pinned = space.has_pinned; structure = space.structure; table = space.table; walks = space.walks },
       record { job = own a _ s.job; taken = ap taken_frames (own a parts.others s.taken) },
     )))
@@ -70,7 +70,7 @@ first_goes : (F : FramesValue) (S : SpaceValue) (w : WalkValue) (s : CoreState) 
 first_goes F S w s a p [] some frames space = absurd (omega (arith, some))
 first_goes F S w s a p (t ∷ []) some frames space =
     let dropped : ShowsFrames (without_references t.frame 1024 F) (core_without t.frame 1024 s) = without_pin F s t.frame frames in (
-      record { movable = dropped.movable; normal = dropped.normal; count = dropped.count; mark = dropped.mark; word = dropped.word },
+      record { movable = dropped.movable; normal = dropped.normal; count = dropped.count; mark = dropped.mark; word = dropped.word; needs_tables = dropped.needs_tables },
       record { right = space.right; pages = space.pages; entry = space.entry; sequence = space.sequence; has_pinned = space.has_pinned; structure = space.structure; table = space.table; walks = own p (s.walks p - 1) s.walks ∙ ap (λ (n : ℕ). n - 1) space.walks },
       record {
         job = own a idle (happens s (drop_first a p w.want.write w.want.long w.sequence t [])).job;
@@ -79,7 +79,7 @@ first_goes F S w s a p (t ∷ []) some frames space =
     )
 first_goes F S w s a p (t ∷ u ∷ taken) some frames space =
     let dropped : ShowsFrames (without_references t.frame 1024 F) (core_without t.frame 1024 s) = without_pin F s t.frame frames in (
-      record { movable = dropped.movable; normal = dropped.normal; count = dropped.count; mark = dropped.mark; word = dropped.word },
+      record { movable = dropped.movable; normal = dropped.normal; count = dropped.count; mark = dropped.mark; word = dropped.word; needs_tables = dropped.needs_tables },
       record { right = space.right; pages = space.pages; entry = space.entry; sequence = space.sequence; has_pinned = space.has_pinned; structure = space.structure; table = space.table; walks = space.walks },
       record { job = own a _ s.job; taken = ap taken_frames (own a (u ∷ taken) s.taken) },
     )
@@ -109,7 +109,7 @@ leads F S w s a p (at stopped) taken fits is job frames space = (frames, as_it_i
 leads F S w s a p (at over) taken fits is job frames space = (frames, as_it_is p S s space, record { job = job; taken = is })
 leads F S w s a p (at (differed f)) taken fits is job frames space =
     let dropped : ShowsFrames (without_references f 1024 F) (core_without f 1024 s) = without_pin F s f frames in (
-      record { movable = dropped.movable; normal = dropped.normal; count = dropped.count; mark = dropped.mark; word = dropped.word },
+      record { movable = dropped.movable; normal = dropped.normal; count = dropped.count; mark = dropped.mark; word = dropped.word; needs_tables = dropped.needs_tables },
       record { right = space.right; pages = space.pages; entry = space.entry; sequence = space.sequence; has_pinned = space.has_pinned; structure = space.structure; table = space.table; walks = space.walks },
       record { job = own a _ s.job; taken = is },
     )

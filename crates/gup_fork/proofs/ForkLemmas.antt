@@ -97,27 +97,27 @@ births_stay a p c q s (e ∷ es) other of = births_stay a p c q (happens s e) es
 
 pub shows_frames : (a p c : ℕ) (frames : FramesValue) (s : CoreState) {e : CoreEvent} → IsForkEvent a p c e → ShowsFrames frames s → ShowsFrames (frames_behind e frames) (happens s e)
 shows_frames a p c frames s beginning h =
-    record { movable = h.movable; normal = h.normal; count = h.count; mark = h.mark; word = h.word }
+    record { movable = h.movable; normal = h.normal; count = h.count; mark = h.mark; word = h.word; needs_tables = h.needs_tables }
 shows_frames a p c frames s (counting done page entry copies) h =
-    record { movable = h.movable; normal = h.normal; count = h.count; mark = h.mark; word = h.word }
+    record { movable = h.movable; normal = h.normal; count = h.count; mark = h.mark; word = h.word; needs_tables = h.needs_tables }
 shows_frames a p c frames s (lowering done page f writable) h =
-    record { movable = h.movable; normal = h.normal; count = h.count; mark = h.mark; word = h.word }
+    record { movable = h.movable; normal = h.normal; count = h.count; mark = h.mark; word = h.word; needs_tables = h.needs_tables }
 shows_frames a p c frames s (unmarking done page f writable) h =
-    record { movable = h.movable; normal = h.normal; count = h.count; mark = λ g. grind (arith, nat_tests, h.mark g); word = h.word }
+    record { movable = h.movable; normal = h.normal; count = h.count; mark = λ g. grind (arith, nat_tests, h.mark g); word = h.word; needs_tables = h.needs_tables }
 shows_frames a p c frames s (giving done page f writable) h =
-    record { movable = h.movable; normal = h.normal; count = λ g. grind (arith, nat_tests, h.count g, h.count f); mark = h.mark; word = h.word }
+    record { movable = h.movable; normal = h.normal; count = λ g. grind (arith, nat_tests, h.count g, h.count f); mark = h.mark; word = h.word; needs_tables = h.needs_tables }
 shows_frames a p c frames s (passing done page) h =
-    record { movable = h.movable; normal = h.normal; count = h.count; mark = h.mark; word = h.word }
+    record { movable = h.movable; normal = h.normal; count = h.count; mark = h.mark; word = h.word; needs_tables = h.needs_tables }
 shows_frames a p c frames s (ending done) h =
-    record { movable = h.movable; normal = h.normal; count = h.count; mark = h.mark; word = h.word }
+    record { movable = h.movable; normal = h.normal; count = h.count; mark = h.mark; word = h.word; needs_tables = h.needs_tables }
 shows_frames a p c frames s (writing done page word to e) h =
-    record { movable = h.movable; normal = h.normal; count = h.count; mark = h.mark; word = λ g w. grind (arith, nat_tests, h.word g w, h.word e.frame word) }
+    record { movable = h.movable; normal = h.normal; count = h.count; mark = h.mark; word = λ g w. grind (arith, nat_tests, h.word g w, h.word e.frame word); needs_tables = h.needs_tables }
 shows_frames a p c frames s (placing done page to rights) h =
-    record { movable = h.movable; normal = h.normal; count = h.count; mark = λ g. grind (arith, nat_tests, h.mark g); word = h.word }
+    record { movable = h.movable; normal = h.normal; count = h.count; mark = λ g. grind (arith, nat_tests, h.mark g); word = h.word; needs_tables = h.needs_tables }
 shows_frames a p c frames s (failing_at done step ends) h =
-    record { movable = h.movable; normal = h.normal; count = h.count; mark = h.mark; word = h.word }
+    record { movable = h.movable; normal = h.normal; count = h.count; mark = h.mark; word = h.word; needs_tables = h.needs_tables }
 shows_frames a p c frames s (putting done page e ends) h =
-    record { movable = h.movable; normal = h.normal; count = λ g. grind (arith, nat_tests, h.count g, h.count e.frame); mark = λ g. grind (arith, nat_tests, h.mark g, h.mark e.frame, h.count e.frame); word = h.word }
+    record { movable = h.movable; normal = h.normal; count = λ g. grind (arith, nat_tests, h.count g, h.count e.frame); mark = λ g. grind (arith, nat_tests, h.mark g, h.mark e.frame, h.count e.frame); word = h.word; needs_tables = h.needs_tables }
 
 pub shows_parent : (a p c : ℕ) (parent : SpaceValue) (s : CoreState) {e : CoreEvent} → (p ≡ c → ⊥) → IsForkEvent a p c e → ShowsSpace p parent s → ShowsSpace p (parent_behind e parent) (happens s e)
 shows_parent a p c parent s apart beginning h =

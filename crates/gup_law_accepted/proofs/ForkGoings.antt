@@ -1,5 +1,7 @@
 -- How far a fork has come: its next page is the lowest of its parent behind the last.
 use Rattle.std.proofs.Common.{◌≡◌, ℕ, ◌+◌, ◌-◌, ◌≤◌, ◌<◌, Bool, true, false, List, [], ◌∷◌, Option, Some, None, is_none, is_some, nat_lt, zero, suc, refl, sym, ap, ◌∙◌, subst, arith}
+use Rattle.gup_spec_events.specs.Event.{has_tables}
+use Rattle.gup_base.specs.declared.entry.Allowed.TheVariants.{Any}
 use Rattle.gup_base.specs.declared.entry.Entry.{Entry}
 use Rattle.gup_plain.specs.Event.{page_numbers, words}
 use Rattle.gup_plain.specs.State.{Birth, failed, growing}
@@ -13,8 +15,8 @@ use Rattle.gup_script.specs.Valid.{IsScript}
 use Rattle.gup_spec_events.specs.State.{CoreState, Job, idle, forking, ForkStep, between, counted, copying, plain_of}
 use Rattle.gup_spec_journal.specs.Place.{Place, Doer, doer_of, birth_for, process_of}
 use Rattle.gup_spec_accepted.specs.Passing.{page_at, ArePassed}
-use Rattle.gup_spec_turns.specs.CoreTurn.{free_frame}
-use Rattle.gup_spec_turns.specs.ForkTurns.{first_behind, next_page, page_turn, next_turn, frame_turn, copy_turn, copying_turn, fork_turn}
+use Rattle.gup_spec_turns.specs.CoreTurn.{frame_for}
+use Rattle.gup_spec_turns.specs.ForkTurns.{first_behind, next_page, page_turn, next_turn, frame_turn, copy_turn, copying_turn, fork_turn, share_turn}
 use Rattle.gup_spec_turns.specs.JobPlace.{IsForking, HasCounted}
 use Rattle.gup_spec_turns.specs.Run.{RunState, op_in, waiting_with, core_turn_by, core_turn_in}
 use Rattle.gup_spec_turns.specs.Turn.{failed_turn, turn_at, op_turn, own_turn}
@@ -67,7 +69,7 @@ module _ (s : CoreState) (sound : IsSound s) (a p child : ℕ) where
 
   -- of a page that it copies
   copying_comes : (done : List ℕ) (g word next page : ℕ) (e : PlainEvent) → s.birth child ≡ growing p → ((h : ℕ) → first_behind done ≤ h → h < g → s.right child h ≡ None) → StepGoes done (copying g word) next → (prepared : Option ℕ) → (copying_turn s a p child done g word prepared).whats ≡ Event e ∷ [] → page_at e ≡ Some page → ArePassed (λ h. is_none (s.right p h)) next page
-  copying_comes done g word next page e birth none goes None tells comes = by_free (free_frame s) tells
+  copying_comes done g word next page e birth none goes None tells comes = by_free (frame_for s child g Any) tells
     where
       by_free : (free : Option ℕ) → (frame_turn s a p child done g word free).whats ≡ Event e ∷ [] → ArePassed (λ h. is_none (s.right p h)) next page
       by_free None told = absurd (cc told)
@@ -87,7 +89,11 @@ module _ (s : CoreState) (sound : IsSound s) (a p child : ℕ) where
   comes_by place next page e (forking q c done (counted g)) fits goes tells comes =
       let at : IsForking s a p child q c done = fits.1.0 in
       let has : HasCounted s a p child done g = fits.1.1 in
-      unnamed_below next (first_behind done) g page at.birth goes (comes_to tells refl comes) has.lowest
+      by_may at.birth has.lowest (has_tables s child g) tells
+    where
+      by_may : s.birth child ≡ growing p → ((h : ℕ) → first_behind done ≤ h → h < g → s.right child h ≡ None) → (may : Bool) → (share_turn s a p child done g (s.entry p g) may).whats ≡ Event e ∷ [] → ArePassed (λ h. is_none (s.right p h)) next page
+      by_may birth none true told = unnamed_below next (first_behind done) g page birth goes (comes_to told refl comes) none
+      by_may birth none false told = absurd (cc told)
   comes_by place next page e (forking q c done (copying g word)) fits goes tells comes =
       let at : IsForking s a p child q c done = fits.1.0 in
       let has : HasCounted s a p child done g = fits.1.1 in

@@ -1,5 +1,6 @@
 -- What a turn of a fork does to how far it has come.
 use Rattle.std.proofs.Common.{◌≡◌, ℕ, ◌+◌, ◌<◌, ◌++◌, if◌then◌else◌, Bool, true, false, List, [], ◌∷◌, Option, Some, None, nat_lt, slice_get, zero, suc, refl, sym, ap, ◌∙◌, subst, arith}
+use Rattle.gup_base.specs.declared.entry.Allowed.TheVariants.{Any}
 use Rattle.gup_base.specs.declared.entry.Entry.{Entry}
 use Rattle.gup_plain.specs.Event.{happened, words}
 use Rattle.gup_plain.specs.Put.{put}
@@ -13,10 +14,10 @@ use Rattle.gup_script.specs.declared.op.Op.TheVariants.{Fork}
 use Rattle.gup_script.specs.Script.{ScriptValue}
 use Rattle.gup_script.specs.Valid.{IsScript}
 use Rattle.gup_spec_events.specs.State.{CoreState, Job, idle, forking, between, counted, lowered, cleared, copying, plain_of}
-use Rattle.gup_spec_events.specs.Event.{CoreEvent, empty_mirror, happens, run, copies_page}
+use Rattle.gup_spec_events.specs.Event.{CoreEvent, empty_mirror, happens, run, copies_page, has_tables}
 use Rattle.gup_spec_journal.specs.Place.{Place, Doer, doer_of, birth_for, place_after, place_behind, ops_of, process_of, present_op}
 use Rattle.gup_spec_accepted.specs.Passing.{Going, first_page, added, own_after}
-use Rattle.gup_spec_turns.specs.CoreTurn.{CoreTurn, free_frame}
+use Rattle.gup_spec_turns.specs.CoreTurn.{CoreTurn, frame_for}
 use Rattle.gup_spec_turns.specs.Emptying.{empties, emptying, is_stale}
 use Rattle.gup_spec_turns.specs.ForkTurns.{first_behind, next_page, page_turn, next_turn, share_turn, frame_turn, copy_turn, copying_turn, fork_turn}
 use Rattle.gup_spec_turns.specs.Run.{RunState, op_in, waiting_with, core_turn_by, core_turn_in, run_after}
@@ -89,7 +90,7 @@ module _ (ops : List Op) (p : ℕ) (s : CoreState) (who : Doer) (child : ℕ) (p
           goes_to (page_turn s who.actor who.proc child done page (Some e)) job (λ u same. put_same who.actor job u.job) (counts e (copies_page s who.proc e.frame))
 
   copying_on : (q c : ℕ) (done : List ℕ) (page word : ℕ) → s.job who.actor ≡ forking q c done (copying page word) → StepGoes done (copying page word) g.next → (prepared : Option ℕ) → GoesOn (copying_turn s who.actor who.proc child done page word prepared)
-  copying_on q c done page word is goes None = by_free (free_frame s)
+  copying_on q c done page word is goes None = by_free (frame_for s child page Any)
     where
       by_free : (free : Option ℕ) → GoesOn (frame_turn s who.actor who.proc child done page word free)
       by_free None = λ far. absurd (omega (arith, far))
@@ -114,8 +115,13 @@ module _ (ops : List Op) (p : ℕ) (s : CoreState) (who : Doer) (child : ℕ) (p
       goes_to (fork_turn s who.actor who.proc child idle) (forking who.proc child [] between) (λ u same. put_same who.actor (forking who.proc child [] between) u.job) goes
   fork_on (forking q c done between) is fits goes = between_on done goes (next_page (s.right child) done)
   fork_on (forking q c done (counted page)) is fits goes =
-      goes_to (share_turn who.actor who.proc child done page (s.entry who.proc page)) (forking who.proc child (page ∷ done) between)
-      (λ u same. put_same who.actor (forking who.proc child (page ∷ done) between) (put who.actor (forking who.proc child done (cleared page)) (put who.actor (forking who.proc child done (lowered page)) u.job))) refl
+      by_may (has_tables s child page)
+    where
+      by_may : (may : Bool) → GoesOn (share_turn s who.actor who.proc child done page (s.entry who.proc page) may)
+      by_may false = λ far. absurd (omega (arith, far))
+      by_may true =
+          goes_to (share_turn s who.actor who.proc child done page (s.entry who.proc page) true) (forking who.proc child (page ∷ done) between)
+          (λ u same. put_same who.actor (forking who.proc child (page ∷ done) between) (put who.actor (forking who.proc child done (cleared page)) (put who.actor (forking who.proc child done (lowered page)) u.job))) refl
   fork_on (forking q c done (copying page word)) is fits goes = copying_on q c done page word is goes (s.prepared who.actor)
   fork_on (forking q c done step) is fits goes = absurd fits.1
   fork_on job is fits goes = absurd fits

@@ -21,7 +21,7 @@ use Rattle.gup_spec_journal.specs.Place.{Place, Doer, place_after, place_behind,
 use Rattle.gup_spec_journal.specs.Plain.{plain_after, pages_got}
 use Rattle.gup_spec_accepted.specs.Passing.{lacks_name, is_unnamed, Going, first_page, page_at, ArePassed, Comes, PassesRight, anew, added, next_behind, own_after}
 use Rattle.gup_spec_turns.specs.JobPlace.{JobPlace}
-use Rattle.gup_law_turns.proofs.TurnShapes.{TurnOf, TurnAt, WalksTo, GoesOver, mapped, protected, loaded, filled_slot, looked, stored, gave, took_over, got_one, put_back, lacked_frame, found_unmovable, pinned_page, kept_all, unpinned_last, placed_frame, found_no_frame, found_busy, unmaps, discards, IsOfProcess, idles, waits, goes, unborn_refused, unborn_fork, refused, took, took_last, passed, passed_last, took_lowest, took_all, pinned_all, pinned_short, walked, refused_slowly, moved_word, moved_last, took_page, dropped_page, dropped_first, dropped_last, began, passed_page, shared_page, ended, copied_word, failed_fork}
+use Rattle.gup_law_turns.proofs.TurnShapes.{TurnOf, TurnAt, WalksTo, GoesOver, mapped, protected, loaded, filled_slot, looked, stored, gave, took_over, got_one, put_back, lacked_frame, found_unmovable, pinned_page, kept_all, unpinned_last, placed_frame, found_no_frame, found_busy, unmaps, discards, IsOfProcess, idles, waits, goes, unborn_refused, unborn_fork, refused, took, took_last, passed, passed_last, took_lowest, took_all, pinned_all, pinned_short, walked, refused_slowly, moved_word, moved_last, took_page, dropped_page, dropped_first, dropped_last, began, passed_page, shared_page, ended, copied_word, failed_fork, failed_share}
 
 -- The notes of one turn of an actor with these operations, of process p, one after another.
 abbrev pub PassOwn : List Op → (p : ℕ) → PlainState → Place → Going → List What → Type 0
@@ -226,6 +226,7 @@ module _ (ops : List Op) (s : PlainState) (references : References) (who : Doer)
   op_goes op (found_no_frame proc page zone e begun free) is own birth comes knows over = done_goes ops p s place g (Some op) is (answers.NoFrame) tt
   op_goes op (found_busy proc page zone e count begun free) is own birth comes knows over = done_goes ops p s place g (Some op) is (answers.Busy count) tt
   op_goes op (ended child from begun) is own birth comes knows over = both_go ops p s place g (Some op) is (events.ForkEnd who.proc child) (answers.Plain) tt tt
+  op_goes op (failed_share child page begun) is own birth comes knows over = both_go ops p s place g (Some op) is (events.ForkFail child) (answers.NoFrame) tt tt
   op_goes op (failed_fork child page begun) is own birth comes knows over = both_go ops p s place g (Some op) is (events.ForkFail child) (answers.NoFrame) tt tt
   op_goes op turn is own birth comes knows over = silent_goes ops p s place g (Some op) is tt tt
 

@@ -3,7 +3,7 @@ use Rattle.std.proofs.Common.{◌≡◌, ℕ, ◌+◌, ◌-◌, ◌*◌, ◌<◌
 use Rattle.std.specs.Prelude.{Ok, Err, ◌&&◌, not, if◌then◌else◌}
 use Rattle.std.proofs.lemmas.Bool.Decides.{nat_tests}
 use Rattle.gup_base.specs.declared.entry.Entry.{Entry}
-use Rattle.gup_base.specs.declared.entry.Allowed.TheVariants.{Only}
+use Rattle.gup_base.specs.declared.entry.Allowed.TheVariants.{Any, Only}
 use Rattle.gup_base.specs.declared.entry.Rights.{Rights}
 use Rattle.gup_base.specs.declared.entry.Want.{Want}
 use Rattle.gup_base.specs.declared.entry.Zone.{Zone}
@@ -16,7 +16,7 @@ use Rattle.gup_plain.specs.declared.note.What.TheVariants.{Silent}
 use Rattle.gup_script.specs.declared.op.Op.{Op}
 use Rattle.gup_script.specs.declared.op.Op.TheVariants.{Pin, Move, Fork}
 use Rattle.gup_spec_events.specs.State.{CoreState, Job, idle, moving, Counted, unread, one as counted_one, more as counted_more, forking, ForkStep, between, counted, lowered, cleared, copying, failing, walking}
-use Rattle.gup_spec_events.specs.Event.{CoreEvent, entry_of, happens, counted_as, take_frame, put_entry, pin_page, make_handle, clear_entry, place_frame, restore_entry, begin_fork, count_page, copies_page, fail_fork, put_child, fail_unborn, run}
+use Rattle.gup_spec_events.specs.Event.{CoreEvent, entry_of, happens, counted_as, take_frame, put_entry, pin_page, make_handle, clear_entry, place_frame, restore_entry, begin_fork, count_page, copies_page, has_tables, fail_fork, put_child, fail_unborn, run}
 use Rattle.gup_spec_events.specs.Fault.{Fault}
 use Rattle.gup_spec_events.specs.Failure.{are_gone, puts_entry, puts_entries, fails}
 use Rattle.gup_spec_events.proofs.Gone.{no_puts}
@@ -26,11 +26,11 @@ use Rattle.gup_spec_turns.specs.Cost.{mapped_by, fork_turns, fork_left, move_tur
 use Rattle.gup_plain.specs.Pages.{mapped_pages}
 use Rattle.gup_spec_turns.specs.Pages.{pages_from}
 use Rattle.gup_spec_turns.specs.JobPlace.{JobPlace, copying_place, job_place, place_in, IsForking, StandsFork, StandsMove, unbegun, from_page, at_page, wants_frame, at_word, moving_page, in_walk}
-use Rattle.gup_spec_turns.specs.CoreTurn.{CoreTurn, answers_with, free_in, free_frame, zones_of, entry_in}
+use Rattle.gup_spec_turns.specs.CoreTurn.{CoreTurn, answers_with, free_in, frame_for, zones_of, entry_in}
 use Rattle.gup_spec_turns.specs.PinPlace.{StandsAtPage, IsWithin, turns_over, most_over}
 use Rattle.gup_spec_turns.specs.PinTurns.{raises, pin_fault, makes_if, moves_first, clears_behind, clears_or_pins, pins_behind, ends_pin, ends_moved, pins_moved, moved_turn, pin_turn_by, begins_or_pins, pin_turn_in}
 use Rattle.gup_spec_turns.specs.WalkTurns.{begin_turn, walk_turn}
-use Rattle.gup_spec_turns.specs.ForkTurns.{first_behind, next_page, page_turn, next_turn, share_turn, frame_turn, copy_turn, copying_turn, fork_turn}
+use Rattle.gup_spec_turns.specs.ForkTurns.{first_behind, next_page, failed_at, page_turn, next_turn, share_turn, frame_turn, copy_turn, copying_turn, fork_turn}
 use Rattle.gup_spec_turns.specs.MoveTurns.{restores, place_turn, counted_turn, move_turn}
 use Rattle.gup_spec_turns.proofs.TurnParts.{clear_turn_by}
 use Rattle.gup_spec_turns.specs.Turn.{op_turn, failed_turn}
@@ -355,24 +355,12 @@ module _ (s : CoreState) (a p : ℕ) (place : Place) where
             (place_by (run s turn.events) a job (s.prepared a) (put_same a job s.job) refl) refl (λ b other. put_other a b job s.job other) (λ b other. refl) (refl, refl) (omega (arith, fewer))
         go (Some e) fewer = counts e (copies_page s p e.frame) fewer
 
-    -- the page that was counted is shared
-    share_spent : (q c : ℕ) (done : List ℕ) (page : ℕ) (entry : Option Entry) → s.job a ≡ forking q c done (counted page) → IsSpent s a p place (Fork child) (share_turn a p child done page entry)
-    share_spent q c done page entry is =
-        let turn : CoreTurn = share_turn a p child done page entry in
-        let one : Job = forking p child done (lowered page) in
-        let two : Job = forking p child done (cleared page) in
-        let job : Job = forking p child (page ∷ done) between in
-        let last : ℕ → Job = put a two (put a one s.job) in
-        fork_goes turn (at_page page) (from_page (page + 1)) tt tt (ap (λ (j : Job). job_place j (s.prepared a)) is)
-        (place_by (run s turn.events) a job (s.prepared a) (put_same a job last) refl) refl
-        (λ b other. put_other a b job last other ∙ put_other a b two (put a one s.job) other ∙ put_other a b one s.job other) (λ b other. refl) (refl, refl) (omega arith)
-
-    -- where no frame is free for its copy the fork fails
-    fail_spent : (q c : ℕ) (done : List ℕ) (page word : ℕ) → IsForking s a p child q c done → IsSpent s a p place (Fork child) (frame_turn s a p child done page word None)
-    fail_spent q c done page word forks =
-        let turn : CoreTurn = frame_turn s a p child done page word None in
+    -- at any step it can fail
+    fail_spent : (q c : ℕ) (done : List ℕ) (step : ForkStep) → IsForking s a p child q c done → IsSpent s a p place (Fork child) (failed_at s a p child done step)
+    fail_spent q c done step forks =
+        let turn : CoreTurn = failed_at s a p child done step in
         let t : CoreState = run s turn.events in
-        let lost = fails_so a p child done s (copying page word) (s.entry child) in
+        let lost = fails_so a p child done s step (s.entry child) in
         let none : ℕ → Option Rights = λ _. None in
         let row : t.right child ≡ none = ap (λ (f : ℕ → ℕ → Option Rights). f child) lost.right ∙ put_same child none s.right in
         let pages : mapped_pages (t.right child) ≡ 0 = ap mapped_pages row ∙ mapped_none none (λ k. refl) in
@@ -393,12 +381,25 @@ module _ (s : CoreState) (a p : ℕ) (place : Place) where
         some_left right unbegun = omega arith
         some_left right place = omega arith
 
+    -- the page that was counted is shared; where the child lacks a table for it the fork fails
+    share_spent : (q c : ℕ) (done : List ℕ) (page : ℕ) (entry : Option Entry) (may : Bool) → s.job a ≡ forking q c done (counted page) → IsForking s a p child q c done → IsSpent s a p place (Fork child) (share_turn s a p child done page entry may)
+    share_spent q c done page entry false is forks = fail_spent q c done (counted page) forks
+    share_spent q c done page entry true is forks =
+        let turn : CoreTurn = share_turn s a p child done page entry true in
+        let one : Job = forking p child done (lowered page) in
+        let two : Job = forking p child done (cleared page) in
+        let job : Job = forking p child (page ∷ done) between in
+        let last : ℕ → Job = put a two (put a one s.job) in
+        fork_goes turn (at_page page) (from_page (page + 1)) tt tt (ap (λ (j : Job). job_place j (s.prepared a)) is)
+        (place_by (run s turn.events) a job (s.prepared a) (put_same a job last) refl) refl
+        (λ b other. put_other a b job last other ∙ put_other a b two (put a one s.job) other ∙ put_other a b one s.job other) (λ b other. refl) (refl, refl) (omega arith)
+
     -- the counted page is copied: the frame for it, its words, and its place in the child
     copying_spent : (q c : ℕ) (done : List ℕ) (page word : ℕ) (prepared : Option ℕ) → s.job a ≡ forking q c done (copying page word) → s.prepared a ≡ prepared → IsForking s a p child q c done → IsSpent s a p place (Fork child) (copying_turn s a p child done page word prepared)
-    copying_spent q c done page word None is has forks = takes (free_frame s)
+    copying_spent q c done page word None is has forks = takes (frame_for s child page Any)
       where
         takes : (free : Option ℕ) → IsSpent s a p place (Fork child) (frame_turn s a p child done page word free)
-        takes None = fail_spent q c done page word forks
+        takes None = fail_spent q c done (copying page word) forks
         takes (Some f) =
             let turn : CoreTurn = frame_turn s a p child done page word (Some f) in
             fork_goes turn (wants_frame page) (at_word page word f) tt tt (place_by s a (forking q c done (copying page word)) None is has)
@@ -428,7 +429,7 @@ module _ (s : CoreState) (a p : ℕ) (place : Place) where
         next : (found : Option ℕ) → next_page (s.right child) done ≡ found → IsSpent s a p place (Fork child) (next_turn s a p child done found)
         next None same = end_spent q c done is
         next (Some page) same = page_spent q c done page (s.entry p page) is same
-    fork_spent (forking q c done (counted page)) is stands few = share_spent q c done page (s.entry p page) is
+    fork_spent (forking q c done (counted page)) is stands few = share_spent q c done page (s.entry p page) (has_tables s child page) is stands.0
     fork_spent (forking q c done (copying page word)) is stands few = copying_spent q c done page word (s.prepared a) is refl stands.0
     fork_spent (forking q c done step) is stands few = absurd stands
     fork_spent job is stands few = absurd stands
@@ -739,7 +740,7 @@ module _ (s : CoreState) (a p : ℕ) (place : Place) where
     begins_spent : s.job a ≡ idle → StandsPaced idle → (begins : Bool) → (fast && place.far == 0) ≡ begins → IsPin (begins_or_pins begins s a p handle page n got want fast)
     begins_spent is stands true test = begin_spent_by (and_first fast (place.far == 0) test) (let first = and_second fast (place.far == 0) test in grind (arith, nat_tests))
     begins_spent is stands false test =
-        fault_spent is stands.most stands.within got refl (pin_fault s a p here want.write (free_in s (zones_of want))) (pin_fault_leaves s a p here want.write (free_in s (zones_of want)))
+        fault_spent is stands.most stands.within got refl (pin_fault s a p here want.write (frame_for s p here (zones_of want))) (pin_fault_leaves s a p here want.write (frame_for s p here (zones_of want)))
 
     pin_spent : (job : Job) → s.job a ≡ job → StandsPaced job → IsPin (pin_turn_in s a p handle page n got want fast place.far job)
     pin_spent idle is stands = begins_spent is stands (fast && place.far == 0) refl

@@ -4,6 +4,7 @@ use Rattle.std.proofs.Common.{◌≡◌, ℕ, ◌+◌, ◌<◌, ◌≤◌, ◌==
 use Rattle.std.specs.Prelude.{◌⊎◌, Ok}
 use Rattle.std.proofs.lemmas.Bool.Decides.{nat_tests}
 use Rattle.gup_base.specs.Parts.{words_of}
+use Rattle.gup_base.specs.declared.entry.Allowed.TheVariants.{Any}
 use Rattle.gup_base.specs.declared.entry.Entry.{Entry}
 use Rattle.gup_base.specs.declared.entry.Rights.{Rights}
 use Rattle.gup_base.specs.declared.entry.Rights.TheVariants.{R, RW}
@@ -25,7 +26,7 @@ use Rattle.gup_spec_journal.specs.Place.{Place, place_behind}
 use Rattle.gup_spec_turns.specs.Cost.{mapped_by, op_left, IsAnswered, IsWithinBound}
 use Rattle.gup_plain.specs.Pages.{mapped_pages}
 use Rattle.gup_spec_turns.specs.MirrorTurns.{fills as fills_slot, mirror_turn, look_turn}
-use Rattle.gup_spec_turns.specs.CoreTurn.{CoreTurn, after_fault, answers_with, free_frame, done_if, silent_or_done}
+use Rattle.gup_spec_turns.specs.CoreTurn.{CoreTurn, after_fault, answers_with, frame_for, done_if, silent_or_done}
 use Rattle.gup_spec_turns.proofs.TurnParts.{loads_after, gets_after, stores_after, store_fault_by, map_turn_by, unmap_turn_by, protect_turn_by, discard_turn_by}
 use Rattle.gup_spec_turns.specs.PageTurns.{load_turn, lowers_entry, lowers, lowers_for, lowest_page, exit_turn_by}
 use Rattle.gup_spec_turns.specs.PinTurns.{get_turn}
@@ -124,7 +125,7 @@ module _ (s : CoreState) (a p : ℕ) (place : Place) (rests : s.job a ≡ idle) 
 
   pub load_moved : (page word : ℕ) (entry : Option Entry) → IsMoved s a p place (Load page word) (load_turn s a p page word entry)
   load_moved page word (Some e) = still (Load page word) (load_turn s a p page word (Some e)) refl refl refl refl
-  load_moved page word None = fault (s.right p page) (free_frame s)
+  load_moved page word None = fault (s.right p page) (frame_for s p page Any)
     where
       fault : (rights : Option Rights) (free : Option ℕ) → IsMoved s a p place (Load page word) (loads_after s (read_fault a p page rights None free) a p page word)
       fault None free = still (Load page word) (answers_with answers.Missing) refl refl refl refl
@@ -133,7 +134,7 @@ module _ (s : CoreState) (a p : ℕ) (place : Place) (rests : s.job a ≡ idle) 
 
   pub get_moved : (handle page : ℕ) (entry : Option Entry) → IsMoved s a p place (Get handle page) (get_turn s a p handle page entry)
   get_moved handle page (Some e) = still (Get handle page) (get_turn s a p handle page (Some e)) refl refl refl refl
-  get_moved handle page None = fault (s.right p page) (free_frame s)
+  get_moved handle page None = fault (s.right p page) (frame_for s p page Any)
     where
       fault : (rights : Option Rights) (free : Option ℕ) → IsMoved s a p place (Get handle page) (gets_after s (read_fault a p page rights None free) a p handle page)
       fault None free = still (Get handle page) (answers_with answers.Missing) refl refl refl refl
@@ -142,7 +143,7 @@ module _ (s : CoreState) (a p : ℕ) (place : Place) (rests : s.job a ≡ idle) 
 
   pub mirror_moved : (mirror proc page : ℕ) (entry : Option Entry) → IsMoved s a p place (Mirror mirror proc page) (mirror_turn s a p mirror page entry)
   mirror_moved mirror proc page (Some e) = still (Mirror mirror proc page) (mirror_turn s a p mirror page (Some e)) refl refl refl refl
-  mirror_moved mirror proc page None = fault (s.right p page) (free_frame s)
+  mirror_moved mirror proc page None = fault (s.right p page) (frame_for s p page Any)
     where
       filled_by : Fault → CoreTurn
       filled_by before = after_fault before (λ es. fills_slot s es a p mirror page)
@@ -171,24 +172,24 @@ module _ (s : CoreState) (a p : ℕ) (place : Place) (rests : s.job a ≡ idle) 
       by_break e None = still (Store page word value) (answers_with answers.NoFrame) refl refl refl refl
       by_break e (Some f) = still_using f (Store page word value) (stores_after s (breaks a p page e true (Some f)) a p page word value) refl refl refl refl
 
-      by_count : (e : Entry) (one : Bool) → IsMoved s a p place (Store page word value) (stores_after s (if one then Ok (marks a p page e ++ upgrade a p page e.frame ∷ []) else breaks a p page e true (free_frame s)) a p page word value)
+      by_count : (e : Entry) (one : Bool) → IsMoved s a p place (Store page word value) (stores_after s (if one then Ok (marks a p page e ++ upgrade a p page e.frame ∷ []) else breaks a p page e true (frame_for s p page Any)) a p page word value)
       by_count e true =
           let turn : CoreTurn = stores_by (Ok (marks a p page e ++ upgrade a p page e.frame ∷ [])) in
           keeping (Store page word value) turn refl (marked_jobs page e.frame (run s turn.events) refl refl) refl
-      by_count e false = by_break e (free_frame s)
+      by_count e false = by_break e (frame_for s p page Any)
 
-      by_mark : (e : Entry) (mark : Bool) (count : ℕ) → IsMoved s a p place (Store page word value) (stores_after s (makes_writable a p page e mark count (free_frame s)) a p page word value)
-      by_mark e true count = still (Store page word value) (stores_after s (makes_writable a p page e true count (free_frame s)) a p page word value) refl refl refl refl
+      by_mark : (e : Entry) (mark : Bool) (count : ℕ) → IsMoved s a p place (Store page word value) (stores_after s (makes_writable a p page e mark count (frame_for s p page Any)) a p page word value)
+      by_mark e true count = still (Store page word value) (stores_after s (makes_writable a p page e true count (frame_for s p page Any)) a p page word value) refl refl refl refl
       by_mark e false count = by_count e (count == 1)
 
-      by_entry : (e : Entry) (writable : Bool) → IsMoved s a p place (Store page word value) (stores_after s (if writable then Ok [] else makes_writable a p page e (s.mark e.frame) (s.count e.frame) (free_frame s)) a p page word value)
+      by_entry : (e : Entry) (writable : Bool) → IsMoved s a p place (Store page word value) (stores_after s (if writable then Ok [] else makes_writable a p page e (s.mark e.frame) (s.count e.frame) (frame_for s p page Any)) a p page word value)
       by_entry e true = still (Store page word value) (stores_by (Ok [])) refl refl refl refl
       by_entry e false = by_mark e (s.mark e.frame) (s.count e.frame)
 
-      fault : (rights : Option Rights) (was : Option Entry) → IsMoved s a p place (Store page word value) (stores_after s (write_fault a p page rights was s.mark s.count (free_frame s)) a p page word value)
+      fault : (rights : Option Rights) (was : Option Entry) → IsMoved s a p place (Store page word value) (stores_after s (write_fault a p page rights was s.mark s.count (frame_for s p page Any)) a p page word value)
       fault None was = still (Store page word value) (answers_with answers.Missing) refl refl refl refl
       fault (Some R) was = still (Store page word value) (answers_with answers.Forbidden) refl refl refl refl
-      fault (Some RW) None = by_fill (free_frame s)
+      fault (Some RW) None = by_fill (frame_for s p page Any)
       fault (Some RW) (Some e) = by_entry e e.writable
 
   pub map_moved : (page n : ℕ) (rights : Rights) (denied : Option Answer) → IsMoved s a p place (Map page n rights) (map_turn_by denied a p page n rights)

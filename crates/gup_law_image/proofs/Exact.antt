@@ -135,6 +135,7 @@ module _ (m n : Imaged) (both : AreOfOne m n) (to : AreSaid (IsTrueOf n) m) (bac
           count = λ f. shows.frames.count f ∙ sym (same_count f);
           mark = λ f. shows.frames.mark f ∙ sym (same_mark f);
           word = λ f w. shows.frames.word f w ∙ sym (same_word f w);
+          needs_tables = shows.frames.needs_tables;
         };
         spaces = λ p x here.
             let y = partner m.parts.spaces.items n.parts.spaces.items p x both.spaces here in

@@ -10,6 +10,7 @@ pub mod ActorNotes
 pub mod RunNotes
 pub mod RunEnds
 pub mod FrameCauses
+pub mod FoundFrames
 pub mod MoveCauses
 pub mod PinCauses
 pub mod LookCauses

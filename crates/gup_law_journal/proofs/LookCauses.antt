@@ -9,7 +9,7 @@ use Rattle.gup_plain.specs.declared.note.Waiting.{Waiting}
 use Rattle.gup_script.specs.Script.{ScriptValue, Actor, actor_at}
 use Rattle.gup_script.specs.Valid.{IsScript, FitsKind}
 use Rattle.gup_script.specs.declared.op.Kind.{Kind}
-use Rattle.gup_script.specs.declared.op.Kind.TheVariants.{Thread, Device, Mover}
+use Rattle.gup_script.specs.declared.op.Kind.TheVariants.{Device}
 use Rattle.gup_script.specs.declared.op.Op.{Op}
 use Rattle.gup_script.specs.declared.op.Op.TheVariants.{Pin, Look}
 use Rattle.gup_script.specs.Script.{is_thread}

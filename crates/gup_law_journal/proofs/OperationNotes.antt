@@ -28,7 +28,7 @@ use Rattle.gup_spec_journal.specs.Follows.{RefusesPage, EndsPin}
 use Rattle.gup_spec_journal.specs.Place.{Place, Doer, concerned, process_of_op, place_behind}
 use Rattle.gup_spec_turns.specs.JobPlace.{JobPlace, unbegun, from_page, at_page, wants_frame, at_word, moving_page, in_walk}
 use Rattle.gup_law_turns.proofs.Puts.{some_same}
-use Rattle.gup_law_turns.proofs.TurnShapes.{IsAtOnce, IsAlwaysSlow, IsSlowTurn, WalksTo, began_walk, walked, kept_all, refused_slowly, TriesAt, RefusesAt, TurnOf, refused, loaded, looked, took, took_last, passed, passed_last, took_lowest, took_all, cleared_page, counted_cleared, lacked_frame, found_unmovable, pinned_page, pinned_all, pinned_short, unpinned_page, unpinned_last, moved_word, moved_last, cleared_entry, counted_frame, placed_frame, found_no_frame, found_busy, began, passed_page, counted_page, shared_page, ended, counted_copy, took_frame, copied_word, placed_copy, failed_fork, GoesOver, unmaps, discards, TurnAt, idles, waits, goes, unborn_refused, unborn_fork}
+use Rattle.gup_law_turns.proofs.TurnShapes.{IsAtOnce, IsAlwaysSlow, IsSlowTurn, WalksTo, began_walk, walked, kept_all, refused_slowly, TriesAt, RefusesAt, TurnOf, refused, loaded, looked, took, took_last, passed, passed_last, took_lowest, took_all, cleared_page, counted_cleared, lacked_frame, found_unmovable, pinned_page, pinned_all, pinned_short, unpinned_page, unpinned_last, moved_word, moved_last, cleared_entry, counted_frame, placed_frame, found_no_frame, found_busy, began, passed_page, counted_page, shared_page, ended, counted_copy, took_frame, copied_word, placed_copy, failed_fork, GoesOver, unmaps, discards, TurnAt, idles, waits, goes, unborn_refused, unborn_fork, failed_share}
 use Rattle.gup_law_journal.proofs.PendingPages.{first_pending}
 use Rattle.gup_law_journal.proofs.WalkNotes.{one_pending, walk_before, walk_behind, kept_all as all_kept}
 use Rattle.gup_law_journal.proofs.PinRests.{PinsThird, IsLateCause, IsLateRefusal, LeftThird, RefusesSlowly, PinRest, SlowRest, RestOfPin, slow_left, left_slow, later_slow, page_refused, walk_shape, unbegun_shape, first_refused, shape_left, begun_slow, slow_refused, unborn_refused as pin_unborn, walk_left, walk_place}
@@ -41,15 +41,16 @@ use Rattle.gup_law_journal.proofs.ActorNotes.{own_other, own_same, own_idle, beh
 abbrev pub RestOver : Who → Op → (page n : ℕ) → (ℕ → PlainEvent) → (far : ℕ) → List NoteValue → Type 0
 RestOver who op page n event far notes = TakesDownAll who event (page + far) (n - far) notes ⊎ ((far ≡ 0) × IsRefused who op notes)
 
--- Of a fork that looks for its next page, the pages from there on; of one that has counted a page, also that one's share;
+-- Of a fork that looks for its next page, the pages from there on; of one that has counted a page, also that one's share, or its failure;
 -- of one that wants a frame, also that one's copy, or its failure; and of one that has copied some words, also those that
 -- are left.
 abbrev pub RestOfFork : Who → (child : ℕ) → JobPlace → List NoteValue → Type 0
 RestOfFork who child unbegun notes = Completes who (Fork child) notes
 RestOfFork who child (from_page page) notes = (pages : ℕ) × ForksPages who child page pages notes
 RestOfFork who child (at_page page) notes =
-    (pages : ℕ)
-    × Then (IsTurn who (Event (events.ForkPage who.proc child page) ∷ [])) (ForksPages who child (page + 1) pages) notes
+    ((pages : ℕ)
+    × Then (IsTurn who (Event (events.ForkPage who.proc child page) ∷ [])) (ForksPages who child (page + 1) pages) notes)
+    ⊎ IsTurn who (Event (events.ForkFail child) ∷ Done answers.NoFrame ∷ []) notes
 RestOfFork who child (wants_frame page) notes =
     ((pages : ℕ) × Then (CopiesPage who child page) (ForksPages who child (page + 1) pages) notes)
     ⊎ IsTurn who (Event (events.ForkFail child) ∷ Done answers.NoFrame ∷ []) notes
@@ -483,10 +484,11 @@ module _ (who : Doer) (t : ℕ) (place : Place) (ops : List Op) (later : List No
   forks_on child at next whats on (inr (front, rest, is, before, begun, shapes)) =
       inr (now whats ++ front, rest, joined whats front rest is, joined_before whats front rest is behind before, on front (behind_front t front rest (subst (AreBehind t) is behind)) begun, shapes)
 
-  -- the silent turn that counts a page is before its share
+  -- the silent turn that counts a page is before its share, or of the failure
   counted_before : (child first page : ℕ) (whats : List What) → IsTurn present (Silent ∷ []) (now whats) → first ≤ page → (front : List NoteValue) → AreBehind t front → RestOfFork present child (at_page page) front → RestOfFork present child (from_page first) (now whats ++ front)
-  counted_before child first page whats silent up front after (pages, (share, rest, is, before, shares, all)) =
+  counted_before child first page whats silent up front after (inl (pages, (share, rest, is, before, shares, all))) =
       (suc pages, (page, up, (now whats ++ share, rest, joined whats share rest is, joined_before whats share rest is after before, inr (now whats, share, refl, front_before whats share rest is after, silent, inl shares), all)))
+  counted_before child first page whats silent up front after (inr fails) = (zero, inr (now whats, front, refl, now_before whats front after, silent, fails))
 
   -- the silent turn that counts a page is before its copy, or of the failure
   counted_copy_before : (child first page : ℕ) (whats : List What) → IsTurn present (Silent ∷ []) (now whats) → first ≤ page → (front : List NoteValue) → AreBehind t front → RestOfFork present child (wants_frame page) front → RestOfFork present child (from_page first) (now whats ++ front)
@@ -603,7 +605,8 @@ module _ (who : Doer) (t : ℕ) (place : Place) (ops : List Op) (later : List No
   op_left op whats (counted_page child first page begun up) is has grows starts follows fresh none left =
       forks_on child (from_page first) (at_page page) whats (counted_before child first page whats (t, refl) up) (subst (λ (os : List Op). Left who.actor who.proc (place.answered + 1) os (place.far + 1) more head_after (at_page page) later) is left)
   op_left op whats (shared_page child page begun) is has grows starts follows fresh none left =
-      forks_on child (at_page page) (from_page (page + 1)) whats (λ front after h. (h.0, (now whats, front, refl, now_before whats front after, (t, refl), h.1))) (subst (λ (os : List Op). Left who.actor who.proc (place.answered + 1) os (place.far + 1) more head_after (from_page (page + 1)) later) is left)
+      forks_on child (at_page page) (from_page (page + 1)) whats (λ front after h. inl (h.0, (now whats, front, refl, now_before whats front after, (t, refl), h.1))) (subst (λ (os : List Op). Left who.actor who.proc (place.answered + 1) os (place.far + 1) more head_after (from_page (page + 1)) later) is left)
+  op_left op whats (failed_share child page begun) is has grows starts follows fresh none left = ends op (at_page page) whats (inr (t, refl)) (none refl) left
   op_left op whats (ended child first begun) is has grows starts follows fresh none left = ends op (from_page first) whats (zero, inl (t, refl)) (none refl) left
   op_left op whats (counted_copy child first page begun up) is has grows starts follows fresh none left =
       forks_on child (from_page first) (wants_frame page) whats (counted_copy_before child first page whats (t, refl) up) (subst (λ (os : List Op). Left who.actor who.proc (place.answered + 1) os (place.far + 1) more head_after (wants_frame page) later) is left)

@@ -1,38 +1,23 @@
 -- How many answers turns have.
-use Rattle.std.proofs.Common.{◌≡◌, ℕ, ◌+◌, ◌<◌, Bool, true, false, IsTrue, List, [], ◌∷◌, ◌++◌, length, Option, Some, None, refl, sym, ap, subst, ◌∙◌, arith, leb-true, leb-false, nat_le, rules}
+use Rattle.std.proofs.Common.{◌≡◌, ℕ, ◌+◌, ◌<◌, Bool, true, false, List, [], ◌∷◌, ◌++◌, length, Option, Some, None, refl, ap, ◌∙◌, arith, leb-true, leb-false, nat_le}
 use Rattle.std.proofs.lemmas.Option.{slice_get_past}
 use Rattle.gup_plain.specs.Put.{put}
 use Rattle.gup_plain.specs.Note.{NoteValue}
-use Rattle.gup_plain.specs.State.{PlainState}
-use Rattle.gup_spec_events.specs.State.{WalkStep}
-use Rattle.gup_script.specs.declared.op.Op.TheVariants.{Pin}
-use Rattle.gup_plain.specs.declared.answer.Answer.{Answer}
-use Rattle.gup_plain.specs.declared.answer.Answer.TheVariants as answers
 use Rattle.gup_plain.specs.declared.note.What.{What}
 use Rattle.gup_plain.specs.declared.note.What.TheVariants.{Idle, Done}
-use Rattle.gup_plain.specs.declared.note.Waiting.{Waiting}
 use Rattle.gup_script.specs.declared.op.Op.{Op}
 use Rattle.gup_script.specs.Script.{ScriptValue, Actor}
-use Rattle.gup_script.specs.Valid.{IsScript}
-use Rattle.gup_spec_journal.specs.Denial.{References}
-use Rattle.gup_spec_journal.specs.Follows.{refuses, notes_of_turn}
+use Rattle.gup_spec_journal.specs.Follows.{notes_of_turn}
 use Rattle.gup_spec_journal.specs.Order.{Turn, journal_of, places_behind}
-use Rattle.gup_spec_journal.specs.Place.{Place, place_after, place_behind, ops_of, ops_in, Doer, doer_of}
+use Rattle.gup_spec_journal.specs.Place.{Place, place_after, place_behind, ops_of, ops_in, doer_of}
 use Rattle.gup_spec_turns.specs.Cause.{answers_in, answered_in, HaveFinished}
 use Rattle.gup_spec_turns.specs.Cost.{operations}
 use Rattle.gup_plain.specs.Pages.{sum_below}
-use Rattle.gup_spec_turns.specs.JobPlace.{JobPlace}
 use Rattle.gup_law_turns.specs.Standing.{IsStanding}
 use Rattle.gup_spec_turns.specs.Run.{RunState, AreTurns, run_start, run_after, core_turn_by, core_turn_in, op_in, waiting_in}
 use Rattle.gup_law_turns.proofs.Puts.{by_points, put_same, put_other, put_own}
-use Rattle.gup_law_turns.proofs.NoteRightness.{not_both}
 use Rattle.gup_law_turns.proofs.ScriptLemmas.{has_ops_declared}
-use Rattle.gup_law_turns.proofs.TurnShapes.{TurnOf, refused, walked, refused_slowly, WalksTo, found_fork, TurnAt, goes}
-use Rattle.gup_law_turns.proofs.StandingTurns.{stands_on}
-use Rattle.gup_law_turns.proofs.StandingStates.{Stands}
-use Rattle.gup_law_turns.proofs.TurnSteps.{taken}
 use Rattle.gup_law_turns.proofs.Sums.{sum_at, sum_zero, sum_of_list}
-use Rattle.gup_law_turns.proofs.EventLists.{Law}
 
 -- how many operations are answered
 

@@ -68,7 +68,7 @@ are_emptied s who place (Store page word value) q g fits has =
 are_emptied s who place (Pin handle page n want fast) q g fits has =
     pinned_among s who.proc page n (length (s.taken who.actor)) q g want (fast && place.far == 0) (s.job who.actor) fits.within has
 are_emptied s who place (Move proc page zone) q g fits has = moved_page who.proc page q g (s.job who.actor) has
-are_emptied s who place (Fork child) q g fits has = of_process who.proc 1 q g (shared_in (s.job who.actor)) has
+are_emptied s who place (Fork child) q g fits has = of_process who.proc 1 q g (shared_in s child (s.job who.actor)) has
 are_emptied s who place Exit q g fits has = of_process who.proc 1 q g (lowest_page (s.right who.proc)) has
 are_emptied s who place op q g fits has = absurd (cc has)
 

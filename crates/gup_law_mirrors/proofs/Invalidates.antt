@@ -2,6 +2,7 @@
 use Rattle.std.proofs.Common.{◌≡◌, ℕ, ◌==◌, ◌&&◌, ◌||◌, not, Bool, true, false, cond, List, [], ◌∷◌, ◌++◌, Option, Some, None, IsSome, is_some, Ok, Err, refl, sym, ap, ◌∙◌, if◌then◌else◌, arith}
 use Rattle.std.proofs.Math.Bool.{or-false}
 use Rattle.std.proofs.lemmas.Bool.Decides.{nat_tests}
+use Rattle.gup_base.specs.declared.entry.Allowed.TheVariants.{Any}
 use Rattle.gup_base.specs.declared.entry.Entry.{Entry}
 use Rattle.gup_base.specs.declared.entry.Rights.{Rights}
 use Rattle.gup_base.specs.declared.entry.Rights.TheVariants.{R, RW}
@@ -9,7 +10,7 @@ use Rattle.gup_plain.specs.Denial.{store_denial}
 use Rattle.gup_spec_events.specs.State.{CoreState}
 use Rattle.gup_spec_events.specs.Event.{CoreEvent, upgrade}
 use Rattle.gup_spec_events.specs.Fault.{Fault, events_of, fills, fills_writable, breaks, marks, read_fault, makes_writable, write_fault, gives_back}
-use Rattle.gup_spec_turns.specs.CoreTurn.{CoreTurn, after_fault, allows_store, free_frame}
+use Rattle.gup_spec_turns.specs.CoreTurn.{CoreTurn, after_fault, allows_store, frame_for}
 use Rattle.gup_spec_turns.specs.PageTurns.{load_fault, store_fault}
 use Rattle.gup_spec_turns.specs.Emptying.{PageRange, one_page, has_page, invalidated_by, invalidate}
 use Rattle.gup_law_mirrors.specs.Invalidated.{page_if, copies, changes_in, range_from}
@@ -85,7 +86,7 @@ module _ (s : CoreState) where
     read_none (Some rights) free q g some = filled free q g some
 
     pub load_none : (entry : Option Entry) → Invalidates s (events_of (load_fault s a p page entry)) None
-    load_none None q g some = read_none (s.right p page) (free_frame s) q g some
+    load_none None q g some = read_none (s.right p page) (frame_for s p page Any) q g some
     load_none (Some e) q g some = refl
 
     broken : (e : Entry) (writable : Bool) (free : Option ℕ) → Invalidates s (events_of (breaks a p page e writable free)) (range_from p 1 (page_if (is_some free) page))
@@ -126,6 +127,6 @@ module _ (s : CoreState) where
         by_entry true fault = refl
         by_entry false fault = refl
 
-    pub store_changes : (entry : Option Entry) → Invalidates s (events_of (store_fault s a p page entry)) (range_from p 1 (page_if (changes_in (store_denial (s.right p page)) entry (λ e. cond (copies true e (s.mark e.frame) (s.count e.frame)) (is_some (free_frame s)) false)) page))
+    pub store_changes : (entry : Option Entry) → Invalidates s (events_of (store_fault s a p page entry)) (range_from p 1 (page_if (changes_in (store_denial (s.right p page)) entry (λ e. cond (copies true e (s.mark e.frame) (s.count e.frame)) (is_some (frame_for s p page Any)) false)) page))
     store_changes entry q g some =
-        ap (λ (es : List CoreEvent). invalidate es q g) (same_events (s.right p page) entry (free_frame s)) ∙ write_changes (s.right p page) entry (free_frame s) q g some
+        ap (λ (es : List CoreEvent). invalidate es q g) (same_events (s.right p page) entry (frame_for s p page Any)) ∙ write_changes (s.right p page) entry (frame_for s p page Any) q g some

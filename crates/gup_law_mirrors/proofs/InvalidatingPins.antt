@@ -13,7 +13,7 @@ use Rattle.gup_plain.specs.declared.answer.Answer.TheVariants as answers
 use Rattle.gup_spec_events.specs.State.{CoreState, Taken, Job, moving, walking, Counted, unread, one, more, WalkStep, entered, ready, read, grabbed, refused, stopped, dropping}
 use Rattle.gup_spec_events.specs.Event.{CoreEvent, is_odd, run, entry_of, take_frame, fill, upgrade, put_entry, break_entry, clear_entry, pin_page, make_handle, raise_flag, restore_entry}
 use Rattle.gup_spec_events.specs.Fault.{Fault, breaks, marks, makes_writable, write_fault, unshares, unshare_fault}
-use Rattle.gup_spec_turns.specs.CoreTurn.{entry_in, free_in, zones_of}
+use Rattle.gup_spec_turns.specs.CoreTurn.{entry_in, free_in, frame_for, zones_of}
 use Rattle.gup_spec_turns.specs.Emptying.{PageRange, one_page, has_page}
 use Rattle.gup_spec_turns.specs.PinTurns.{raises, pin_fault, makes_if, pins_behind, moves_first, clears_or_pins, pins, ends_pin, pin_turn_by, begins_or_pins, ends_moved, pins_moved, moved_turn, pin_turn_in}
 use Rattle.gup_spec_turns.specs.WalkTurns.{leaves_if, grab_turn, is_same, recheck_turn, is_none_left, all_turn, ready_turn, split_last, last_turn, first_turn, walk_turn}
@@ -109,7 +109,7 @@ module _ (s : CoreState) (a p : ℕ) where
         by_raise zero true = kept_by [] before e same (λ q g some. refl) is
         by_raise (suc m) quick = kept_by [] before e same (λ q g some. refl) is
 
-    -- the entry changes where it is copied, and a frame is free for that, and where it isn't, but moves
+    -- the entry changes where it is copied, and a frame is found for that, and where it isn't, but moves
     abbrev changes_by : (write : Bool) → (free : Option ℕ) → Entry → Bool
     changes_by write free e = cond (copies write e (s.mark e.frame) (s.count e.frame)) (is_some free) (moves_first s want e)
 
@@ -175,7 +175,7 @@ module _ (s : CoreState) (a p : ℕ) where
 
   begun : (begins : Bool) (handle page n got : ℕ) (want : Want) (fast : Bool) → Invalidates s (begins_or_pins begins s a p handle page n got want fast).events (range_from p 1 (page_if (not begins && changes_page s p (page + got) want) (page + got)))
   begun true handle page n got want fast q g some = refl
-  begun false handle page n got want fast q g some = page_turn handle (page + got) n got want fast want.write (free_in s (zones_of want)) q g some
+  begun false handle page n got want fast q g some = page_turn handle (page + got) n got want fast want.write (frame_for s p (page + got) (zones_of want)) q g some
 
   -- ---- a page that is moved first
 

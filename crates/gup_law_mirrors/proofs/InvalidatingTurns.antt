@@ -4,7 +4,7 @@ use Rattle.std.proofs.Math.Bool.{or-false}
 use Rattle.std.proofs.lemmas.Bool.Decides.{nat_tests}
 use Rattle.gup_base.specs.Parts.{words_of, word_at}
 use Rattle.gup_base.specs.declared.entry.Allowed.{Allowed}
-use Rattle.gup_base.specs.declared.entry.Allowed.TheVariants.{Only}
+use Rattle.gup_base.specs.declared.entry.Allowed.TheVariants.{Any, Only}
 use Rattle.gup_base.specs.declared.entry.Entry.{Entry}
 use Rattle.gup_base.specs.declared.entry.Rights.{Rights}
 use Rattle.gup_base.specs.declared.entry.Rights.TheVariants.{R, RW}
@@ -17,15 +17,15 @@ use Rattle.gup_script.specs.Valid.{IsOp}
 use Rattle.gup_script.specs.declared.op.Op.{Op}
 use Rattle.gup_script.specs.declared.op.Op.TheVariants.{Map, Unmap, Protect, Discard, Load, Store, Pin, Unpin, Give, Take, Get, Put, Transfer, Mirror, Look, Fork, Exit, Move}
 use Rattle.gup_spec_events.specs.State.{CoreState, Job, idle, moving, forking, Counted, unread, one, more, between, counted, copying}
-use Rattle.gup_spec_events.specs.Event.{CoreEvent, lower_entry, protect_pages, drop_entry, discard_entry, load, store, get_reference}
+use Rattle.gup_spec_events.specs.Event.{CoreEvent, lower_entry, protect_pages, drop_entry, discard_entry, load, store, get_reference, has_tables}
 use Rattle.gup_spec_events.specs.Failure.{are_gone, puts_entry, puts_entries}
 use Rattle.gup_spec_events.specs.Fault.{gives_back}
 use Rattle.gup_spec_journal.specs.Denial.{has_reference}
-use Rattle.gup_spec_turns.specs.CoreTurn.{free_in, free_frame}
+use Rattle.gup_spec_turns.specs.CoreTurn.{free_in, frame_for}
 use Rattle.gup_spec_turns.specs.PageTurns.{loads, load_turn, stores, store_turn, load_fault, store_fault, mapped_turn, lowers_entry, lowers, lowers_for, exit_turn_by, lowest_page}
 use Rattle.gup_spec_turns.specs.PinTurns.{gets, get_turn, got_by, got_frame}
 use Rattle.gup_spec_turns.specs.MoveTurns.{place_turn, counted_turn, move_turn}
-use Rattle.gup_spec_turns.specs.ForkTurns.{next_page, page_turn, next_turn, frame_turn, copy_turn, copying_turn, fork_turn}
+use Rattle.gup_spec_turns.specs.ForkTurns.{next_page, page_turn, next_turn, share_turn, frame_turn, copy_turn, copying_turn, fork_turn}
 use Rattle.gup_spec_turns.specs.Turn.{op_turn}
 use Rattle.gup_spec_turns.specs.Emptying.{PageRange, one_page, has_page, invalidated_by, invalidate}
 use Rattle.gup_spec_turns.proofs.TurnParts.{map_turn_by, protect_turn_by, unpin_turn_by, give_turn_by, put_turn_by, clear_turn_by, transfer_turn_by}
@@ -172,7 +172,7 @@ module _ (s : CoreState) (a p : ℕ) where
   copied c done page word to false q g some = refl
 
   copying_none : (c : ℕ) (done : List ℕ) (page word : ℕ) (prepared : Option ℕ) → Invalidates s (copying_turn s a p c done page word prepared).events None
-  copying_none c done page word None = framed c done page word (free_frame s)
+  copying_none c done page word None = framed c done page word (frame_for s c page Any)
   copying_none c done page word (Some to) = copied c done page word to (nat_lt word words)
 
   passed : (c : ℕ) (done : List ℕ) (page : ℕ) (entry : Option Entry) → Invalidates s (page_turn s a p c done page entry).events None
@@ -183,9 +183,13 @@ module _ (s : CoreState) (a p : ℕ) where
   next_none c done None = λ q g some. refl
   next_none c done (Some page) = passed c done page (s.entry p page)
 
-  pub forked : (c : ℕ) (job : Job) → Invalidates s (fork_turn s a p c job).events (range_from p 1 (shared_in job))
+  shared : (c : ℕ) (done : List ℕ) (page : ℕ) (entry : Option Entry) (may : Bool) → Invalidates s (share_turn s a p c done page entry may).events (range_from p 1 (page_if may page))
+  shared c done page entry true = λ q g some. or-false (has_page (one_page p page) q g)
+  shared c done page entry false = entries_put c done (s.entry c) 0 page_numbers
+
+  pub forked : (c : ℕ) (job : Job) → Invalidates s (fork_turn s a p c job).events (range_from p 1 (shared_in s c job))
   forked c (forking q d done between) = next_none c done (next_page (s.right c) done)
-  forked c (forking q d done (counted page)) = λ r g some. or-false (has_page (one_page p page) r g)
+  forked c (forking q d done (counted page)) = shared c done page (s.entry p page) (has_tables s c page)
   forked c (forking q d done (copying page word)) = copying_none c done page word (s.prepared a)
   forked c (forking q d done step) = λ r g some. refl
   forked c job = λ r g some. refl

@@ -1,5 +1,6 @@
 -- What the notes tell to be filled is filled: each turn keeps that, so that no look is stale through such a slot.
 use Rattle.std.proofs.Common.{◌≡◌, ℕ, ◌+◌, ◌==◌, Bool, true, false, List, [], ◌∷◌, ◌++◌, Option, Some, None, IsSome, refl, sym, ap, ◌∙◌, subst, if◌then◌else◌}
+use Rattle.gup_base.specs.declared.entry.Allowed.TheVariants.{Any}
 use Rattle.gup_base.specs.declared.entry.Entry.{Entry}
 use Rattle.gup_base.specs.declared.entry.Rights.{Rights}
 use Rattle.gup_plain.specs.Put.{put}
@@ -22,7 +23,7 @@ use Rattle.gup_law_base.specs.Sound.{IsSound}
 use Rattle.gup_spec_journal.specs.Order.{Turn, journal_of}
 use Rattle.gup_spec_journal.specs.Place.{Place, Doer, first_place, doer_of, birth_for}
 use Rattle.gup_spec_journal.specs.Stale.{PageOf, Slots, IsStaleAt, AreStaleIn, AreStaleSeen}
-use Rattle.gup_spec_turns.specs.CoreTurn.{CoreTurn, answers_with, after_fault, free_frame, entry_in}
+use Rattle.gup_spec_turns.specs.CoreTurn.{CoreTurn, answers_with, after_fault, frame_for, entry_in}
 use Rattle.gup_spec_turns.specs.Emptying.{invalidate, left_in, emptying}
 use Rattle.gup_spec_turns.specs.MirrorTurns.{fills, mirror_turn, look_turn}
 use Rattle.gup_spec_turns.specs.Run.{RunState, AreTurns, run_start, op_in, waiting_in, run_after, core_turn_by, core_turn_in}
@@ -136,7 +137,7 @@ module _ (s : CoreState) where
 
     mirror_keeps : (entry : Option Entry) → KeepsSlots s p (Some (Mirror mirror q page)) (mirror_turn s a p mirror page entry)
     mirror_keeps (Some e) = fill_keeps [] refl refl
-    mirror_keeps None = by_rights (s.right p page) (free_frame s)
+    mirror_keeps None = by_rights (s.right p page) (frame_for s p page Any)
       where
         by_rights : (rights : Option Rights) (free : Option ℕ) → KeepsSlots s p (Some (Mirror mirror q page)) (after_fault (read_fault a p page rights None free) (λ before. fills s before a p mirror page))
         by_rights None free = refusal_keeps p (Mirror mirror q page) answers.Missing (λ slots are. tt)

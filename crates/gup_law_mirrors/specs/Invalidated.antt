@@ -8,7 +8,8 @@ use Rattle.gup_plain.specs.declared.answer.Answer.{Answer}
 use Rattle.gup_script.specs.declared.op.Op.{Op}
 use Rattle.gup_script.specs.declared.op.Op.TheVariants.{Unmap, Protect, Discard, Store, Pin, Move, Fork, Exit}
 use Rattle.gup_spec_events.specs.State.{CoreState, Job, idle, moving, forking, walking, counted}
-use Rattle.gup_spec_turns.specs.CoreTurn.{free_in, zones_of}
+use Rattle.gup_spec_events.specs.Event.{has_tables}
+use Rattle.gup_spec_turns.specs.CoreTurn.{frame_for, zones_of}
 use Rattle.gup_spec_turns.specs.Emptying.{PageRange}
 use Rattle.gup_spec_turns.specs.PageTurns.{lowest_page}
 use Rattle.gup_spec_turns.specs.PinTurns.{moves_first}
@@ -23,11 +24,11 @@ page_if false page = None
 abbrev pub copies : (write : Bool) → Entry → (mark : Bool) → (count : ℕ) → Bool
 copies write e mark count = not (write && e.writable) && (not mark && not (count == 1))
 
--- Is this entry of a page that is made ready broken or cleared? It is broken where the page is copied, and a frame is free for
+-- Is this entry of a page that is made ready broken or cleared? It is broken where the page is copied, and a frame is found for
 -- that. It is cleared where the page isn't copied, and is to be moved first.
-abbrev pub changes_entry : CoreState → Want → Entry → Bool
-changes_entry s want e =
-    if copies want.write e (s.mark e.frame) (s.count e.frame) then is_some (free_in s (zones_of want)) else moves_first s want e
+abbrev pub changes_entry : CoreState → (p page : ℕ) → Want → Entry → Bool
+changes_entry s p page want e =
+    if copies want.write e (s.mark e.frame) (s.count e.frame) then is_some (frame_for s p page (zones_of want)) else moves_first s want e
 
 -- has a page that may be made ready an entry that changes so?
 abbrev pub changes_in : (denied : Option Answer) → Option Entry → (changes : Entry → Bool) → Bool
@@ -35,7 +36,7 @@ changes_in None (Some e) changes = changes e
 changes_in denied entry changes = false
 
 abbrev pub changes_page : CoreState → (p page : ℕ) → Want → Bool
-changes_page s p page want = changes_in (pin_denial want.write (s.right p page)) (s.entry p page) (changes_entry s want)
+changes_page s p page want = changes_in (pin_denial want.write (s.right p page)) (s.entry p page) (changes_entry s p page want)
 
 -- a store makes its page ready as a write pin that isn't for long does
 abbrev pub for_store : Want
@@ -52,10 +53,10 @@ abbrev pub moved_in : (page : ℕ) → Job → Option ℕ
 moved_in page idle = Some page
 moved_in page job = None
 
--- a fork shares the page that it has counted
-abbrev pub shared_in : Job → Option ℕ
-shared_in (forking q c done (counted page)) = Some page
-shared_in job = None
+-- a fork shares the page that it has counted, unless the child lacks a table for it
+abbrev pub shared_in : CoreState → (child : ℕ) → Job → Option ℕ
+shared_in s child (forking q c done (counted page)) = page_if (has_tables s child page) page
+shared_in s child job = None
 
 -- the first page of which a turn of this operation of process p empties the slots, of which so many turns are over
 abbrev pub page_in : CoreState → (a p far : ℕ) → Op → Option ℕ
@@ -66,7 +67,7 @@ page_in s a p far (Store page word value) = page_if (changes_page s p page for_s
 page_in s a p far (Pin handle page n want fast) =
     pinned_in s p (page + length (s.taken a)) want (fast && far == 0) (s.job a)
 page_in s a p far (Move proc page zone) = moved_in page (s.job a)
-page_in s a p far (Fork child) = shared_in (s.job a)
+page_in s a p far (Fork child) = shared_in s child (s.job a)
 page_in s a p far Exit = lowest_page (s.right p)
 page_in s a p far op = None
 

@@ -1,6 +1,7 @@
 -- A turn that empties slots first is what it is without that, in a state in which no slot is filled: it can happen, it has its shape,
 -- and the actor stands right after it.
 use Rattle.std.proofs.Common.{◌≡◌, ℕ, ◌+◌, ◌<◌, ◌||◌, Bool, true, false, List, [], ◌∷◌, ◌++◌, Option, Some, None, IsSome, refl, sym, ap, ◌∙◌, subst, arith, ◌⊎◌, inl, inr, nat_lt, ◌≤◌}
+use Rattle.gup_law_turns.specs.Standing.{CopyStands}
 use Rattle.std.proofs.lemmas.Bool.Decides.{nat_tests}
 use Rattle.gup_base.specs.declared.entry.Entry.{Entry}
 use Rattle.gup_base.specs.declared.entry.Want.{Want}
@@ -284,6 +285,7 @@ module _ (s : CoreState) (who : Doer) (place : Place) (op : Op) (turn : CoreTurn
         shape = subst (λ (at : JobPlace). TurnAt (plain_of s) (references_of s) who place (Some op) None (place_in s who.actor) turn.whats at) (sym same_place) h.shape;
         next = subst (λ (t : CoreState). FitsNext t who (Some op) place turn.whats) (sym same) (next_with behind.mirrored bare who (Some op) place turn.whats h.next);
         pin = λ o is none birth. subst (λ (t : CoreState). MakesPin s t who.actor o) (sym same) (makes_with s.mirrored behind.mirrored (calmed s) bare who.actor o (h.pin o is none birth));
+        copies = subst (λ (t : CoreState). CopyStands t who.actor) (sym same) h.copies;
         emptied = λ child page is lost.
             ap (λ (t : CoreState). t.entry child page) same ∙ h.emptied child page is (sym (ap (λ (t : CoreState). t.birth child) same) ∙ lost);
       }

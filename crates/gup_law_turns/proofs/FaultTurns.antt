@@ -11,7 +11,7 @@ use Rattle.gup_plain.specs.State.{born}
 use Rattle.gup_plain.specs.declared.answer.Answer.{Answer}
 use Rattle.gup_plain.specs.declared.answer.Answer.TheVariants as answers
 use Rattle.gup_spec_events.specs.State.{CoreState, idle, marking}
-use Rattle.gup_spec_events.specs.Event.{CoreEvent, MayPrepare, AreUnlocked, IsUnmirrored, Can, happens, entry_of, take_frame, fill, upgrade, break_entry, put_entry, run}
+use Rattle.gup_spec_events.specs.Event.{CoreEvent, MayPrepare, AreUnlocked, IsUnmirrored, Can, happens, entry_of, take_frame, fill, upgrade, break_entry, put_entry, run, has_tables}
 use Rattle.gup_spec_events.specs.Fault.{Fault, fills, breaks, marks, unshares, fills_writable, makes_writable, write_fault, unshare_fault}
 use Rattle.gup_spec_events.specs.Invariant.{AllCan, entry_of_page, frame_of, weight}
 use Rattle.gup_law_base.specs.Sound.{IsSound, held}
@@ -22,7 +22,7 @@ use Rattle.gup_spec_turns.specs.PinTurns.{pin_fault}
 use Rattle.gup_law_turns.proofs.CalmStates.{IsCalm, Strand, AreTurnEvents, taking, filling, counting_one, marking_it, upgrading, breaking, putting}
 use Rattle.gup_law_turns.proofs.Puts.{put_same, put_other, put2_same}
 use Rattle.gup_law_turns.proofs.TurnShapes.{AtRest, unprepared, at_rest}
-use Rattle.gup_law_turns.proofs.ShownTurns.{IsOpen, flat_tables}
+use Rattle.gup_law_turns.proofs.ShownTurns.{IsOpen}
 
 -- a page with an entry, seen as that
 pub entry_there : (entry : Option Entry) → IsSome entry → entry ≡ Some (entry_of (frame_in entry) (allows_store entry))
@@ -51,7 +51,6 @@ pub record MayFault (s : CoreState) (a p : ℕ) : Type 0 where
   pub calm : IsCalm s
   pub birth : s.birth p ≡ born
   pub job : s.job a ≡ idle
-  pub flat : s.needs_tables ≡ false
   pub counted : (page : ℕ) (e : Entry) → s.entry p page ≡ Some e → s.count e.frame ≡ 0 → ⊥
   pub marked : (page : ℕ) (e : Entry) → s.entry p page ≡ Some e → e.writable ≡ true → s.mark e.frame ≡ true
 
@@ -62,7 +61,6 @@ may_fault s a p h job =
       calm = h.calm;
       birth = h.birth;
       job = job;
-      flat = h.flat;
       counted = λ page e is. entry_counted s p page e h.sound is;
       marked = λ page e is. h.sound.1.entry_marked p page e (h.sound.1.whole_entry p page e is);
     }
@@ -97,9 +95,10 @@ abbrev pub LeadsTo : CoreState → (a p page : ℕ) → (write : Bool) → Optio
 LeadsTo s a p page write denied (Err answer) = RefusesPage answer × IsAnswerOf denied answer
 LeadsTo s a p page write denied (Ok es) = (denied ≡ None) × IsReady s a p es × Allows (run s es) p page write
 
--- the frame that a turn takes, if it takes one, is a frame, and free
-abbrev pub IsFree : CoreState → Option ℕ → Type 0
-IsFree s frame = (f : ℕ) → frame ≡ Some f → (f < s.movable + s.normal) × (s.count f ≡ 0)
+-- the frame that a turn takes for a page, if it takes one, is a frame, and free, and the page lacks no table
+abbrev pub IsFree : CoreState → (p page : ℕ) → Option ℕ → Type 0
+IsFree s p page frame =
+    (f : ℕ) → frame ≡ Some f → (f < s.movable + s.normal) × (s.count f ≡ 0) × (has_tables s p page ≡ true)
 
 -- a frame that is free isn't one that has a reference
 pub differ : (count : ℕ → ℕ) (f g : ℕ) → count f ≡ 0 → (count g ≡ 0 → ⊥) → (f == g) ≡ false
@@ -128,7 +127,7 @@ module _ (s : CoreState) (a p : ℕ) (h : MayFault s a p) where
   needs_none = record { kinds = λ strand. tt; can = tt; rest = h.rest; job = h.job; birth = h.birth; told = refl; right = refl }
 
   -- with the free frame that its turn takes, if there is one
-  module _ (free : AreUnlocked s p) (page : ℕ) (frame : Option ℕ) (is_free : IsFree s frame) where
+  module _ (free : AreUnlocked s p) (page : ℕ) (frame : Option ℕ) (is_free : IsFree s p page frame) where
     can_take : (f : ℕ) → frame ≡ Some f → Can s (take_frame a f)
     can_take f found = let at = is_free f found in (may_prepare, unprepared_here, at.0, at.1)
 
@@ -137,7 +136,7 @@ module _ (s : CoreState) (a p : ℕ) (h : MayFault s a p) where
     filled f found named none =
         record {
           kinds = λ strand. (taking f, (filling page f, tt));
-          can = (can_take f found, ((h.birth, free, h.job, named, none, put_same a (Some f) s.prepared, flat_tables s p page h.flat), tt));
+          can = (can_take f found, ((h.birth, free, h.job, named, none, put_same a (Some f) s.prepared, (is_free f found).2), tt));
           rest = at_rest (run s (take_frame a f ∷ fill a p page f ∷ [])) a (put_same a None (put a (Some f) s.prepared)) h.rest.owed;
           job = h.job;
           birth = h.birth;

@@ -8,8 +8,8 @@ use Rattle.gup_plain.specs.Put.{put}
 use Rattle.gup_plain.specs.State.{unborn, growing, failed}
 use Rattle.gup_plain.specs.declared.event.PlainEvent.{PlainEvent}
 use Rattle.gup_plain.specs.declared.event.PlainEvent.TheVariants as events
-use Rattle.gup_spec_events.specs.State.{CoreState, idle, forking, copying, failing}
-use Rattle.gup_spec_events.specs.Event.{CoreEvent, happens, fail_fork, put_child, AreGone, run}
+use Rattle.gup_spec_events.specs.State.{CoreState, ForkStep, idle, forking, failing}
+use Rattle.gup_spec_events.specs.Event.{CoreEvent, happens, fail_fork, put_child, AreGone, MayFail, run}
 use Rattle.gup_spec_events.specs.Failure.{are_gone, puts_entry, puts_entries, fails}
 use Rattle.gup_spec_events.proofs.Gone.{no_puts, are_said}
 use Rattle.gup_spec_events.specs.Invariant.{AllCan}
@@ -168,9 +168,9 @@ pub record FailsFork (s : CoreState) (a p c : ℕ) (es : List CoreEvent) : Type 
   pub told : all_told es ≡ events.ForkFail c ∷ []
   pub given : IsGivenUp (run s es) a c
 
--- a fork that copies a page and has no frame for it fails
-pub fork_fails : (s : CoreState) (a p c : ℕ) (done : List ℕ) (page word : ℕ) → IsSound s → s.birth c ≡ growing p → s.job a ≡ forking p c done (copying page word) → s.prepared a ≡ None → s.owed a ≡ None → FailsFork s a p c (fails a p c done (copying page word) (s.entry c))
-fork_fails s a p c done page word sound birth job none owed = go (are_gone (s.entry c) 0 page_numbers) refl
+-- a fork may fail at each step at which it is between two turns
+pub fork_fails : (s : CoreState) (a p c : ℕ) (done : List ℕ) (step : ForkStep) → IsSound s → s.birth c ≡ growing p → s.job a ≡ forking p c done step → MayFail step → s.prepared a ≡ None → s.owed a ≡ None → FailsFork s a p c (fails a p c done step (s.entry c))
+fork_fails s a p c done step sound birth job may none owed = go (are_gone (s.entry c) 0 page_numbers) refl
   where
     high : (g : ℕ) → page_numbers ≤ g → s.entry c g ≡ None
     high g least = numbered_entry s p c g sound birth least
@@ -182,18 +182,18 @@ fork_fails s a p c done page word sound birth job none owed = go (are_gone (s.en
     said : AreGone (s.entry c) (are_gone (s.entry c) 0 page_numbers)
     said = are_said (s.entry c) (s.entry c) 0 page_numbers (λ g least below. refl) others
 
-    go : (ends : Bool) → are_gone (s.entry c) 0 page_numbers ≡ ends → FailsFork s a p c (fail_fork a p c done (copying page word) ends ∷ puts_entries a p c done (s.entry c) 0 page_numbers)
+    go : (ends : Bool) → are_gone (s.entry c) 0 page_numbers ≡ ends → FailsFork s a p c (fail_fork a p c done step ends ∷ puts_entries a p c done (s.entry c) 0 page_numbers)
     go true gone =
         let over : AreGone (s.entry c) true = subst (AreGone (s.entry c)) gone said in
-        subst (λ (es : List CoreEvent). FailsFork s a p c (fail_fork a p c done (copying page word) true ∷ es)) (sym (no_puts a p c done (s.entry c) 0 page_numbers gone))
+        subst (λ (es : List CoreEvent). FailsFork s a p c (fail_fork a p c done step true ∷ es)) (sym (no_puts a p c done (s.entry c) 0 page_numbers gone))
         (record {
-          kinds = (failing_at done (copying page word) true, tt);
-          can = ((job, tt, none, over), tt);
+          kinds = (failing_at done step true, tt);
+          can = ((job, may, none, over), tt);
           told = refl;
           given = record { job = put_same a idle s.job; prepared = none; owed = owed; birth = put_same c failed s.birth; emptied = over };
         })
     go false gone =
-        let one : CoreState = happens s (fail_fork a p c done (copying page word) false) in
+        let one : CoreState = happens s (fail_fork a p c done step false) in
         let begun : IsPutTo a p c done (s.entry c) one 0 =
         record {
           job = put_same a (forking p c done failing) s.job;
@@ -205,8 +205,8 @@ fork_fails s a p c done page word sound birth job none owed = go (are_gone (s.en
         } in
         let puts = puts_pages a p c done (s.entry c) 0 page_numbers one (λ g least. high g (omega (arith, least))) begun gone in
         record {
-          kinds = (failing_at done (copying page word) false, puts.kinds);
-          can = ((job, tt, none, subst (AreGone (s.entry c)) gone said), puts.can);
+          kinds = (failing_at done step false, puts.kinds);
+          can = ((job, may, none, subst (AreGone (s.entry c)) gone said), puts.can);
           told = ap (λ (es : List PlainEvent). events.ForkFail c ∷ es) puts.told;
           given = puts.given;
         }

@@ -1,5 +1,8 @@
 -- The turns of a fork can be done, have their shapes, and lead where the next turn can go on.
 use Rattle.std.proofs.Common.{◌≡◌, ℕ, ◌+◌, ◌-◌, ◌<◌, ◌≤◌, ◌==◌, Bool, true, false, IsSome, is_some, List, [], ◌∷◌, Contains, Option, Some, None, ◌⊎◌, inl, inr, eqb-true, nat_lt, refl, ap, sym, subst, ◌∙◌, eq-or-lt_of_le, arith}
+use Rattle.gup_law_turns.proofs.CopiedPages.{no_copy, no_frame, copies_on}
+use Rattle.gup_law_turns.specs.Standing.{CopyStands}
+use Rattle.gup_base.specs.declared.entry.Allowed.TheVariants.{Any}
 use Rattle.std.proofs.lemmas.Bool.Decides.{nat_tests}
 use Rattle.std.proofs.lemmas.List.Elements.{Contains-append_right}
 use Rattle.std.proofs.lemmas.Map.Made.{Contains-tail}
@@ -13,13 +16,13 @@ use Rattle.gup_plain.specs.declared.note.What.{What}
 use Rattle.gup_plain.specs.declared.note.What.TheVariants.{Silent, Event, Done}
 use Rattle.gup_script.specs.declared.op.Op.TheVariants.{Fork}
 use Rattle.gup_spec_events.specs.State.{CoreState, Taken, Job, idle, forking, ForkStep, between, counted, lowered, cleared, copying, plain_of}
-use Rattle.gup_spec_events.specs.Event.{CoreEvent, MayPrepare, AreUnlocked, happens, entry_of, take_frame, begin_fork, count_page, share_entry, share_mark, share_child, copy_word, place_child, pass_page, end_fork, copies_page, run}
+use Rattle.gup_spec_events.specs.Event.{CoreEvent, MayPrepare, MayFail, AreUnlocked, has_tables, happens, entry_of, take_frame, begin_fork, count_page, share_entry, share_mark, share_child, copy_word, place_child, pass_page, end_fork, copies_page, run}
 use Rattle.gup_spec_events.specs.Failure.{fails}
 use Rattle.gup_law_base.specs.Sound.{keeps_table}
 use Rattle.gup_spec_journal.specs.Place.{Place, Doer}
 use Rattle.gup_spec_turns.specs.JobPlace.{JobPlace, job_place, place_in, IsForking, HasCounted, HasCopied, StandsFork, KeepsFrame, unbegun, from_page, at_page, wants_frame, at_word}
-use Rattle.gup_spec_turns.specs.CoreTurn.{frame_in, allows_store, entry_in, free_frame}
-use Rattle.gup_spec_turns.specs.ForkTurns.{first_behind, next_page, page_turn, next_turn, share_turn, frame_turn, copy_turn, copying_turn, rights_in, fork_turn}
+use Rattle.gup_spec_turns.specs.CoreTurn.{frame_in, allows_store, entry_in, frame_for}
+use Rattle.gup_spec_turns.specs.ForkTurns.{first_behind, next_page, page_turn, next_turn, failed_at, share_turn, frame_turn, copy_turn, copying_turn, rights_in, fork_turn}
 use Rattle.gup_spec_turns.specs.Waits.{fork_locks, held_by_other, waits_for_lock, waits_for_locks, locks_needed}
 use Rattle.gup_spec_turns.specs.Turn.{op_turn}
 use Rattle.gup_law_turns.proofs.CalmStates.{beginning, counting, sharing_entry, sharing_mark, sharing_child, passing, ending, taking, copying_word, placing}
@@ -27,9 +30,9 @@ use Rattle.gup_law_turns.proofs.FaultTurns.{entry_there, no_mirror_at}
 use Rattle.gup_law_turns.proofs.ForkFails.{below_or_from, unborn_empty, fork_fails}
 use Rattle.gup_law_turns.proofs.KeptPages.{pages_leave}
 use Rattle.gup_law_turns.proofs.Puts.{put_same, put2_same, none_of}
-use Rattle.gup_law_turns.proofs.PageSearches.{free_frame_free, lowest_some, lowest_none, IsLowest}
-use Rattle.gup_law_turns.proofs.TurnShapes.{references_of, AtFirst, IsBegun, FitsFork, FitsOp, TurnOf, began, passed_page, counted_page, shared_page, ended, counted_copy, took_frame, copied_word, placed_copy, failed_fork, AtRest, unprepared, at_rest}
-use Rattle.gup_law_turns.proofs.ShownTurns.{IsOpen, IsTurned, both_free, flat_tables, table_free}
+use Rattle.gup_law_turns.proofs.PageSearches.{frame_for_free, lowest_some, lowest_none, IsLowest}
+use Rattle.gup_law_turns.proofs.TurnShapes.{references_of, AtFirst, IsBegun, FitsFork, FitsOp, TurnOf, began, passed_page, counted_page, shared_page, ended, counted_copy, took_frame, copied_word, placed_copy, failed_share, failed_fork, AtRest, unprepared, at_rest}
+use Rattle.gup_law_turns.proofs.ShownTurns.{IsOpen, IsTurned, both_free, table_free}
 
 -- a fork's shape, by the places where it stands before and after the turn
 shape_from : (s t : CoreState) (who : Doer) (child : ℕ) (place : Place) (whats : List What) (from to : JobPlace) → place_in s who.actor ≡ from → place_in t who.actor ≡ to → TurnOf (plain_of s) (references_of s) who place (Fork child) from whats to → TurnOf (plain_of s) (references_of s) who place (Fork child) (place_in s who.actor) whats (place_in t who.actor)
@@ -275,9 +278,23 @@ module _ (s : CoreState) (who : Doer) (child : ℕ) (place : Place) (h : IsOpen 
       next_by None is free = ends is
       next_by (Some page) is free = page_by page is (free refl) (s.entry p page) refl
 
-    -- it has counted a page, which is shared
-    shares : (page : ℕ) → s.job a ≡ forking p child done (counted page) → IsBegun place → HasCounted s a p child done page → IsTurned s who place (Fork child) (share_turn a p child done page (s.entry p page))
-    shares page job begun kept =
+    -- where it finds no frame or no table it fails
+    gives_up_at : (step : ForkStep) (from : JobPlace) → s.job a ≡ forking p child done step → MayFail step → s.prepared a ≡ None → place_in s a ≡ from → TurnOf (plain_of s) (references_of s) who place (Fork child) from (Event (events.ForkFail child) ∷ Done answers.NoFrame ∷ []) unbegun → IsTurned s who place (Fork child) (failed_at s a p child done step)
+    gives_up_at step from job may none stood shape =
+        let es : List CoreEvent = fails a p child done step (s.entry child) in
+        let t : CoreState = run s es in
+        let fall = fork_fails s a p child done step h.sound at.birth job may none h.rest.owed in
+        let left = pages_leave s a p child es fall.kinds in
+        record {
+          done = record { kinds = fall.kinds; can = fall.can; rest = at_rest t a fall.given.prepared fall.given.owed; told = fall.told };
+          shape = shape_from s t who child place (Event (events.ForkFail child) ∷ Done answers.NoFrame ∷ []) from unbegun stood (stands_at t a idle None fall.given.job fall.given.prepared) shape;
+          next = (fall.given.job, ap (λ (f : ℕ → List Taken). f a) left.taken ∙ untaken);
+          pin = tt;
+        }
+
+    -- it has counted a page, which is shared where the child lacks no table for it
+    shares : (page : ℕ) → s.job a ≡ forking p child done (counted page) → IsBegun place → HasCounted s a p child done page → has_tables s child page ≡ true → IsTurned s who place (Fork child) (share_turn s a p child done page (s.entry p page) true)
+    shares page job begun kept has =
         let none : s.prepared a ≡ None = keeps s a (forking p child done (counted page)) h.rest job in
         let f : ℕ = frame_in (s.entry p page) in
         let writable : Bool = allows_store (s.entry p page) in
@@ -294,7 +311,7 @@ module _ (s : CoreState) (who : Doer) (child : ℕ) (place : Place) (h : IsOpen 
             kinds = (sharing_entry done page f writable, (sharing_mark done page f false, (sharing_child done page f false, tt)));
             can = (
               (job, lowers, no_mirror_at s p page h.calm),
-              ((put_same a (forking p child done (lowered page)) s.job, lies), ((put_same a (forking p child done (cleared page)) one.job, lies, flat_tables s child page h.flat), tt)),
+              ((put_same a (forking p child done (lowered page)) s.job, lies), ((put_same a (forking p child done (cleared page)) one.job, lies, has), tt)),
             );
             rest = at_rest t a none h.rest.owed;
             told = refl;
@@ -303,6 +320,12 @@ module _ (s : CoreState) (who : Doer) (child : ℕ) (place : Place) (h : IsOpen 
           next = (untaken, fits_fork t a p child (record place { far = place.far + 1; had = true }) (forking p child (page ∷ done) between) None behind none ((omega arith, refl), stands));
           pin = tt;
         }
+
+    shares_by : (page : ℕ) (may : Bool) → has_tables s child page ≡ may → s.job a ≡ forking p child done (counted page) → IsBegun place → HasCounted s a p child done page → IsTurned s who place (Fork child) (share_turn s a p child done page (s.entry p page) may)
+    shares_by page true has job begun kept = shares page job begun kept has
+    shares_by page false lacks job begun kept =
+        let none : s.prepared a ≡ None = keeps s a (forking p child done (counted page)) h.rest job in
+        gives_up_at (counted page) (at_page page) job tt none (stands_at s a (forking p child done (counted page)) None job none) (failed_share child page begun)
 
     -- it copies a page that it has counted
 
@@ -325,10 +348,10 @@ module _ (s : CoreState) (who : Doer) (child : ℕ) (place : Place) (h : IsOpen 
         wants : place_in s a ≡ wants_frame page
         wants = stands_at s a (forking p child done (copying page 0)) None job none
 
-        takes : (f : ℕ) → free_frame s ≡ Some f → IsTurned s who place (Fork child) (frame_turn s a p child done page 0 (Some f))
+        takes : (f : ℕ) → frame_for s child page Any ≡ Some f → IsTurned s who place (Fork child) (frame_turn s a p child done page 0 (Some f))
         takes f found =
             let t : CoreState = happens s (take_frame a f) in
-            let free = free_frame_free s f found in
+            let free = frame_for_free s child page Any f found in
             let has : t.prepared a ≡ Some f = put_same a (Some f) s.prepared in
             let stands : IsForking t a p child p child done = still_forking t refl refl refl refl in
             let keeps_page : HasCounted t a p child done page =
@@ -345,22 +368,8 @@ module _ (s : CoreState) (who : Doer) (child : ℕ) (place : Place) (h : IsOpen 
               pin = tt;
             }
 
-        -- where no frame is free the fork fails
-        gives_up : IsTurned s who place (Fork child) (frame_turn s a p child done page 0 None)
-        gives_up =
-            let es : List CoreEvent = fails a p child done (copying page 0) (s.entry child) in
-            let t : CoreState = run s es in
-            let fall = fork_fails s a p child done page 0 h.sound at.birth job none h.rest.owed in
-            let left = pages_leave s a p child es fall.kinds in
-            record {
-              done = record { kinds = fall.kinds; can = fall.can; rest = at_rest t a fall.given.prepared fall.given.owed; told = fall.told };
-              shape = shape_from s t who child place (Event (events.ForkFail child) ∷ Done answers.NoFrame ∷ []) (wants_frame page) unbegun wants (stands_at t a idle None fall.given.job fall.given.prepared) (failed_fork child page begun);
-              next = (fall.given.job, ap (λ (f : ℕ → List Taken). f a) left.taken ∙ untaken);
-              pin = tt;
-            }
-
-        frame_by : (free : Option ℕ) → free_frame s ≡ free → IsTurned s who place (Fork child) (frame_turn s a p child done page 0 free)
-        frame_by None is = gives_up
+        frame_by : (free : Option ℕ) → frame_for s child page Any ≡ free → IsTurned s who place (Fork child) (frame_turn s a p child done page 0 free)
+        frame_by None is = gives_up_at (copying page 0) (wants_frame page) job tt none wants (failed_fork child page begun)
         frame_by (Some f) is = takes f is
 
       -- into the frame that is prepared so many words are copied
@@ -400,7 +409,7 @@ module _ (s : CoreState) (who : Doer) (child : ℕ) (place : Place) (h : IsOpen 
             record {
               done = record {
                 kinds = (placing done page to rights, tt);
-                can = ((whole, has, rights_are (s.right child page) kept.mapped, flat_tables s child page h.flat), tt);
+                can = ((whole, has, rights_are (s.right child page) kept.mapped, h.copies p child page words to done whole has), tt);
                 rest = at_rest t a none h.rest.owed;
                 told = refl;
               };
@@ -416,7 +425,7 @@ module _ (s : CoreState) (who : Doer) (child : ℕ) (place : Place) (h : IsOpen 
       copies_by : (word : ℕ) (prepared : Option ℕ) → s.job a ≡ forking p child done (copying page word) → s.prepared a ≡ prepared → HasCopied word prepared → IsTurned s who place (Fork child) (copying_turn s a p child done page word prepared)
       copies_by word None job none first =
           subst (λ (n : ℕ). IsTurned s who place (Fork child) (copying_turn s a p child done page n None)) (sym first)
-          (frame_by (job ∙ ap (λ (n : ℕ). forking p child done (copying page n)) first) none (free_frame s) refl)
+          (frame_by (job ∙ ap (λ (n : ℕ). forking p child done (copying page n)) first) none (frame_for s child page Any) refl)
       copies_by word (Some to) job has most = word_by word to job has (nat_lt word words) refl most
 
   -- by where the fork stands
@@ -441,7 +450,8 @@ module _ (s : CoreState) (who : Doer) (child : ℕ) (place : Place) (h : IsOpen 
       let job = own_job q c done between fits.1 is in
       next_by done at job fits.0 (next_page (s.right child) done) refl
       (λ some. table_free s a p h.sound (ap keeps_table job) (table_needed (next_page (s.right child) done) free some))
-  fork_by (forking q c done (counted page)) is fits free = shares done (own_fork q c done fits.1.0) page (own_job q c done (counted page) fits.1.0 is) fits.0 fits.1.1
+  fork_by (forking q c done (counted page)) is fits free =
+      shares_by done (own_fork q c done fits.1.0) page (has_tables s child page) refl (own_job q c done (counted page) fits.1.0 is) fits.0 fits.1.1
   fork_by (forking q c done (copying page n)) is fits free =
       copies_by done (own_fork q c done fits.1.0) page fits.0 fits.1.1 n (s.prepared a) (own_job q c done (copying page n) fits.1.0 is) refl fits.1.2
   fork_by (forking q c done step) is fits free = absurd fits.1
@@ -464,9 +474,17 @@ module _ (s : CoreState) (who : Doer) (child : ℕ) (place : Place) (h : IsOpen 
       unfailed (run s (next_turn s a p child done None).events) born (put_same child born s.birth) (λ same. cc same)
   emptied_next done (Some page) birth = emptied_page done page (s.entry p page) birth
 
+  emptied_fall : (done : List ℕ) (step : ForkStep) → s.birth child ≡ growing p → s.job a ≡ forking p child done step → MayFail step → s.prepared a ≡ None → IsEmptied (run s (failed_at s a p child done step).events) child
+  emptied_fall done step birth job may none =
+      λ lost. (fork_fails s a p child done step h.sound birth job may none h.rest.owed).given.emptied
+
+  emptied_share : (done : List ℕ) (page : ℕ) (entry : Option Entry) (may : Bool) → s.birth child ≡ growing p → s.job a ≡ forking p child done (counted page) → IsEmptied (run s (share_turn s a p child done page entry may).events) child
+  emptied_share done page entry true birth job = grows (run s (share_turn s a p child done page entry true).events) birth
+  emptied_share done page entry false birth job =
+      emptied_fall done (counted page) birth job tt (keeps s a (forking p child done (counted page)) h.rest job)
+
   emptied_frame : (done : List ℕ) (page word : ℕ) (free : Option ℕ) → s.birth child ≡ growing p → s.job a ≡ forking p child done (copying page word) → s.prepared a ≡ None → IsEmptied (run s (frame_turn s a p child done page word free).events) child
-  emptied_frame done page word None birth job none =
-      λ lost. (fork_fails s a p child done page word h.sound birth job none h.rest.owed).given.emptied
+  emptied_frame done page word None birth job none = emptied_fall done (copying page word) birth job tt none
   emptied_frame done page word (Some f) birth job none =
       grows (run s (frame_turn s a p child done page word (Some f)).events) birth
 
@@ -475,18 +493,66 @@ module _ (s : CoreState) (who : Doer) (child : ℕ) (place : Place) (h : IsOpen 
   emptied_word done page word to false birth = grows (run s (copy_turn s a p child done page word to false).events) birth
 
   emptied_copy : (done : List ℕ) (page word : ℕ) (prepared : Option ℕ) → s.birth child ≡ growing p → s.job a ≡ forking p child done (copying page word) → s.prepared a ≡ prepared → IsEmptied (run s (copying_turn s a p child done page word prepared).events) child
-  emptied_copy done page word None birth job none = emptied_frame done page word (free_frame s) birth job none
+  emptied_copy done page word None birth job none = emptied_frame done page word (frame_for s child page Any) birth job none
   emptied_copy done page word (Some to) birth job has = emptied_word done page word to (nat_lt word words) birth
 
   emptied_by : (job : Job) → s.job a ≡ job → FitsFork s a p child place job (s.prepared a) → IsEmptied (run s (fork_turn s a p child job).events) child
   emptied_by idle is fits = grows (run s (fork_turn s a p child idle).events) (put_same child (growing p) s.birth)
   emptied_by (forking q c done between) is fits = emptied_next done (next_page (s.right child) done) fits.1.birth
   emptied_by (forking q c done (counted page)) is fits =
-      grows (run s (fork_turn s a p child (forking q c done (counted page))).events) fits.1.0.birth
+      emptied_share done page (s.entry p page) (has_tables s child page) fits.1.0.birth (own_job q c done (counted page) fits.1.0 is)
   emptied_by (forking q c done (copying page n)) is fits =
       emptied_copy done page n (s.prepared a) fits.1.0.birth (own_job q c done (copying page n) fits.1.0 is) refl
   emptied_by (forking q c done step) is fits = absurd fits.1
   emptied_by job is fits = absurd fits
+
+  -- after a turn the child of a fork that copies a page lacks no table for it
+
+  copied_page : (done : List ℕ) (page : ℕ) (entry : Option Entry) → s.prepared a ≡ None → CopyStands (run s (page_turn s a p child done page entry).events) a
+  copied_page done page None none =
+      no_copy (run s (page_turn s a p child done page None).events) a (forking p child (page ∷ done) between) (put_same a (forking p child (page ∷ done) between) s.job) (λ copies. copies)
+  copied_page done page (Some e) none = no_frame (run s (page_turn s a p child done page (Some e)).events) a none
+
+  copied_next : (done : List ℕ) (found : Option ℕ) → s.prepared a ≡ None → CopyStands (run s (next_turn s a p child done found).events) a
+  copied_next done None none = no_copy (run s (next_turn s a p child done None).events) a idle (put_same a idle s.job) (λ copies. copies)
+  copied_next done (Some page) none = copied_page done page (s.entry p page) none
+
+  copied_fall : (done : List ℕ) (step : ForkStep) → s.birth child ≡ growing p → s.job a ≡ forking p child done step → MayFail step → s.prepared a ≡ None → CopyStands (run s (failed_at s a p child done step).events) a
+  copied_fall done step birth job may none =
+      let fall = fork_fails s a p child done step h.sound birth job may none h.rest.owed in
+      no_frame (run s (failed_at s a p child done step).events) a fall.given.prepared
+
+  copied_share : (done : List ℕ) (page : ℕ) (entry : Option Entry) (may : Bool) → s.birth child ≡ growing p → s.job a ≡ forking p child done (counted page) → CopyStands (run s (share_turn s a p child done page entry may).events) a
+  copied_share done page entry true birth job =
+      no_frame (run s (share_turn s a p child done page entry true).events) a (keeps s a (forking p child done (counted page)) h.rest job)
+  copied_share done page entry false birth job =
+      copied_fall done (counted page) birth job tt (keeps s a (forking p child done (counted page)) h.rest job)
+
+  copied_frame : (done : List ℕ) (page word : ℕ) (free : Option ℕ) → frame_for s child page Any ≡ free → s.birth child ≡ growing p → s.job a ≡ forking p child done (copying page word) → s.prepared a ≡ None → CopyStands (run s (frame_turn s a p child done page word free).events) a
+  copied_frame done page word None found birth job none = copied_fall done (copying page word) birth job tt none
+  copied_frame done page word (Some f) found birth job none =
+      copies_on (run s (frame_turn s a p child done page word (Some f)).events) a p child page word done job (frame_for_free s child page Any f found).2
+
+  copied_words : (done : List ℕ) (page word to : ℕ) (more : Bool) → s.job a ≡ forking p child done (copying page word) → s.prepared a ≡ Some to → CopyStands (run s (copy_turn s a p child done page word to more).events) a
+  copied_words done page word to true job has =
+      copies_on (run s (copy_turn s a p child done page word to true).events) a p child page (word + 1) done (put_same a (forking p child done (copying page (word + 1))) s.job) (h.copies p child page word to done job has)
+  copied_words done page word to false job has = no_frame (run s (copy_turn s a p child done page word to false).events) a (put_same a None s.prepared)
+
+  copied_copy : (done : List ℕ) (page word : ℕ) (prepared : Option ℕ) → s.birth child ≡ growing p → s.job a ≡ forking p child done (copying page word) → s.prepared a ≡ prepared → CopyStands (run s (copying_turn s a p child done page word prepared).events) a
+  copied_copy done page word None birth job none = copied_frame done page word (frame_for s child page Any) refl birth job none
+  copied_copy done page word (Some to) birth job has = copied_words done page word to (nat_lt word words) job has
+
+  copied_by : (job : Job) → s.job a ≡ job → FitsFork s a p child place job (s.prepared a) → CopyStands (run s (fork_turn s a p child job).events) a
+  copied_by idle is fits =
+      no_copy (run s (fork_turn s a p child idle).events) a (forking p child [] between) (put_same a (forking p child [] between) s.job) (λ copies. copies)
+  copied_by (forking q c done between) is fits =
+      copied_next done (next_page (s.right child) done) (keeps s a (forking q c done between) h.rest is)
+  copied_by (forking q c done (counted page)) is fits =
+      copied_share done page (s.entry p page) (has_tables s child page) fits.1.0.birth (own_job q c done (counted page) fits.1.0 is)
+  copied_by (forking q c done (copying page n)) is fits =
+      copied_copy done page n (s.prepared a) fits.1.0.birth (own_job q c done (copying page n) fits.1.0 is) refl
+  copied_by (forking q c done step) is fits = absurd fits.1
+  copied_by job is fits = absurd fits
 
 pub fork_turned : (s : CoreState) (who : Doer) (child : ℕ) (place : Place) → IsOpen s who.actor who.proc → FitsOp s who (Fork child) place → waits_for_locks (locks_needed s who.actor who.proc place.far (Fork child)) who.actor (s.structure who.proc) (s.table who.proc) ≡ None → IsTurned s who place (Fork child) (op_turn s who.actor who.proc who.slots place.far (Fork child))
 fork_turned s who child place h fits free =
@@ -494,3 +560,6 @@ fork_turned s who child place h fits free =
 
 pub fork_emptied : (s : CoreState) (who : Doer) (child : ℕ) (place : Place) → IsOpen s who.actor who.proc → FitsOp s who (Fork child) place → IsEmptied (run s (op_turn s who.actor who.proc who.slots place.far (Fork child)).events) child
 fork_emptied s who child place h fits = emptied_by s who child place h fits.0 (s.job who.actor) refl fits.1
+
+pub fork_copied : (s : CoreState) (who : Doer) (child : ℕ) (place : Place) → IsOpen s who.actor who.proc → FitsOp s who (Fork child) place → CopyStands (run s (op_turn s who.actor who.proc who.slots place.far (Fork child)).events) who.actor
+fork_copied s who child place h fits = copied_by s who child place h fits.0 (s.job who.actor) refl fits.1

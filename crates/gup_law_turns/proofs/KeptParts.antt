@@ -1,5 +1,7 @@
 -- What the events of a turn leave as it is.
 use Rattle.std.proofs.Common.{◌≡◌, ℕ, ◌<◌, ◌==◌, ◌⊎◌, inl, inr, Bool, true, false, if◌then◌else◌, List, [], ◌∷◌, ◌++◌, Option, Some, None, refl, sym, ap, subst, ◌∙◌, eqb-true, arith}
+use Rattle.gup_spec_tables.specs.declared.place.Place.{Place}
+use Rattle.gup_spec_tables.specs.Tables.{on_path, lacks}
 use Rattle.std.proofs.lemmas.Bool.Decides.{nat_tests}
 use Rattle.gup_base.specs.declared.entry.Allowed.{Allowed}
 use Rattle.gup_base.specs.declared.entry.Entry.{Entry}
@@ -9,10 +11,10 @@ use Rattle.gup_plain.specs.Put.{put, put2}
 use Rattle.gup_plain.specs.State.{Birth, unborn, growing, born, failed, Handle, unmade, held, gone}
 use Rattle.gup_script.specs.Limits.{most_mirrors}
 use Rattle.gup_spec_events.specs.State.{CoreState, Taken, marking, moving, Counted, one, forking, ForkStep, between, counted, lowered, cleared, copying, failing}
-use Rattle.gup_spec_events.specs.Event.{CoreEvent, Can, MayFail, happens, put_child, fail_fork, raise_flag, pin_page, make_handle, unpin_page, give_handle, take_handle, taken_frames, objects_taken, writes_taken, run, recheck_same, drop_last, drop_first}
+use Rattle.gup_spec_events.specs.Event.{CoreEvent, Can, MayFail, tree_in, happens, put_child, fail_fork, raise_flag, pin_page, make_handle, unpin_page, give_handle, take_handle, taken_frames, objects_taken, writes_taken, run, recheck_same, drop_last, drop_first}
 use Rattle.gup_spec_events.specs.Invariant.{AllCan}
 use Rattle.gup_law_base.specs.Sound.{IsSound, Forking, forking_of, birth_of_child, is_failing, moving_of, marking_of, step_page}
-use Rattle.gup_law_turns.proofs.CalmStates.{IsCalm, Strand, of_pin, of_handle, of_get, of_put, of_mirror, emptying_slot, filling_slot, getting, putting_back, IsTurnEvent, AreTurnEvents, raising, pinning, making, handling, IsHandleEvent, AreHandleEvents, unpinning, giving, taking_over, beginning, ending, failing_at, putting_child, failing_unborn, marking_it, clearing, placing_frame, restoring, sharing_entry, sharing_child, placing, MayMove, finding_same, dropping_last, dropping_first, emptying_slot}
+use Rattle.gup_law_turns.proofs.CalmStates.{IsCalm, Strand, adding, taking_table, of_pin, of_handle, of_get, of_put, of_mirror, emptying_slot, filling_slot, getting, putting_back, IsTurnEvent, AreTurnEvents, raising, pinning, making, handling, IsHandleEvent, AreHandleEvents, unpinning, giving, taking_over, beginning, ending, failing_at, putting_child, failing_unborn, marking_it, clearing, placing_frame, restoring, sharing_entry, sharing_child, placing, MayMove, finding_same, dropping_last, dropping_first, emptying_slot}
 use Rattle.gup_law_turns.proofs.Puts.{put_same, put_other, some_same}
 use Rattle.gup_law_turns.proofs.EventLists.{Law}
 
@@ -23,10 +25,11 @@ pub record OfProcess : Type 0 where
   pub birth : Birth
   pub structure : Option ℕ
   pub table : Option ℕ
+  pub place : ℕ → Option Place
 
 abbrev pub of_process : CoreState → ℕ → OfProcess
 of_process s q =
-    record { right = s.right q; entry = s.entry q; birth = s.birth q; structure = s.structure q; table = s.table q }
+    record { right = s.right q; entry = s.entry q; birth = s.birth q; structure = s.structure q; table = s.table q; place = s.place q }
 
 -- Another process stays, all births but the child's stay, and so do the jobs of other actors, and what they have prepared
 -- and owe.
@@ -70,14 +73,27 @@ abbrev pub FillsNone : Strand → Type 0
 FillsNone strand = (m : ℕ) → strand ≡ of_mirror m → ⊥
 
 module _ (s : CoreState) (a p c : ℕ) (strand : Strand) where
+  abbrev with_place : (q : ℕ) → (ℕ → Option Place) → OfProcess
+  with_place q place = record (of_process s q) { place = place }
+
   leaves_handle : {e : CoreEvent} (h : ℕ) → IsHandleEvent a h e → Leaves a p c s (happens s e)
   leaves_handle h (unpinning f left) = record { process = λ q other child. refl; birth = λ q child. refl; job = λ b other. refl; prepared = λ b other. refl; owed = λ b other. refl }
   leaves_handle h event = record { process = λ q other child. refl; birth = λ q child. refl; job = λ b other. refl; prepared = λ b other. refl; owed = λ b other. refl }
+
+  -- a table of the process or of the child is of no other
+  tables_apart : (q k table : ℕ) (at : Option Place) → (k ≡ p) ⊎ (k ≡ c) → (q == p) ≡ false → (q == c) ≡ false → put2 k table at s.place q ≡ s.place q
+  tables_apart q k table at own other child = put2_apart k q table at s.place (away own)
+    where
+      away : (k ≡ p) ⊎ (k ≡ c) → q ≡ k → ⊥
+      away (inl is) same = grind (arith, nat_tests, is, same, other)
+      away (inr is) same = grind (arith, nat_tests, is, same, child)
 
   leaves_event : {e : CoreEvent} → IsTurnEvent a p c strand e → Leaves a p c s (happens s e)
   leaves_event (handling h is event) = leaves_handle h event
   leaves_event (failing_at done step true) = record { process = λ q other child. simp (other, child); birth = λ q child. simp child; job = λ b other. simp other; prepared = λ b other. refl; owed = λ b other. refl }
   leaves_event (putting_child done page e true) = record { process = λ q other child. simp (other, child); birth = λ q child. refl; job = λ b other. simp other; prepared = λ b other. refl; owed = λ b other. refl }
+  leaves_event (adding k page table own) = record { process = λ q other child. ap (with_place q) (tables_apart q k table (Some (on_path (lacks (tree_in s k) page) page)) own other child); birth = λ q child. refl; job = λ b other. refl; prepared = λ b other. refl; owed = λ b other. refl }
+  leaves_event (taking_table k page table own) = record { process = λ q other child. ap (with_place q) (tables_apart q k table None own other child); birth = λ q child. refl; job = λ b other. refl; prepared = λ b other. refl; owed = λ b other. refl }
   leaves_event event = record { process = λ q other child. first_of (simp other, simp child, simp (other, child), cc); birth = λ q child. first_of (simp child, cc); job = λ b other. first_of (simp other, cc); prepared = λ b other. first_of (simp other, cc); owed = λ b other. first_of (simp other, cc) }
 
   -- nothing of a turn mirrors, but of one that fills a slot

@@ -2,6 +2,7 @@ pub mod ScriptLemmas
 pub mod Puts
 pub mod PinChanges
 pub mod ForkFails
+pub mod CopiedPages
 pub mod ForkOps
 pub mod HandleOps
 pub mod MirrorOps

@@ -1,5 +1,6 @@
 -- The turns that fill a mirror slot and look through one: they can be done, have their shapes, and empty no slot.
 use Rattle.std.proofs.Common.{◌≡◌, ℕ, ◌<◌, ◌==◌, Bool, true, false, IsTrue, IsSome, List, [], ◌∷◌, ◌++◌, Option, Some, None, eqb-true, if◌then◌else◌, refl, ap, sym, subst, ◌∙◌}
+use Rattle.gup_base.specs.declared.entry.Allowed.TheVariants.{Any}
 use Rattle.gup_base.specs.declared.entry.Entry.{Entry}
 use Rattle.gup_base.specs.declared.entry.Rights.{Rights}
 use Rattle.gup_plain.specs.Denial.{load_denial}
@@ -18,7 +19,7 @@ use Rattle.gup_law_base.specs.Sound.{IsSound}
 use Rattle.gup_spec_journal.specs.Follows.{refuses}
 use Rattle.gup_spec_journal.specs.Place.{Place, Doer}
 use Rattle.gup_spec_journal.specs.Plain.{IsAnswerOf}
-use Rattle.gup_spec_turns.specs.CoreTurn.{CoreTurn, answers_with, after_fault, free_frame, entry_in}
+use Rattle.gup_spec_turns.specs.CoreTurn.{CoreTurn, answers_with, after_fault, frame_for, entry_in}
 use Rattle.gup_spec_turns.specs.Emptying.{invalidate, left_in}
 use Rattle.gup_spec_turns.specs.MirrorTurns.{fills, mirror_turn, look_turn}
 use Rattle.gup_spec_turns.specs.Waits.{waits_for_locks, both_locks}
@@ -28,7 +29,7 @@ use Rattle.gup_law_turns.proofs.EmptiedTurns.{calmed}
 use Rattle.gup_law_turns.specs.Slots.{EmptiesSlots, LeavesSlot}
 use Rattle.gup_law_turns.proofs.FaultTurns.{IsReady, MayFault, may_fault, filled}
 use Rattle.gup_law_turns.proofs.PageOps.{named_load}
-use Rattle.gup_law_turns.proofs.PageSearches.{free_frame_free}
+use Rattle.gup_law_turns.proofs.PageSearches.{frame_for_free}
 use Rattle.gup_law_turns.proofs.Puts.{put2_same}
 use Rattle.gup_law_turns.proofs.ReferenceOps.{entry_is}
 use Rattle.gup_law_turns.proofs.ShownTurns.{IsOpen, IsTurned, shape_idle, both_free, kinds_behind, told_behind}
@@ -85,11 +86,11 @@ module _ (s : CoreState) (who : Doer) (place : Place) (h : IsOpen (calmed s) who
       }
 
   module _ (unlocked : AreUnlocked s p) where
-    mirror_fills : (rights : Option Rights) (free : Option ℕ) → s.right p page ≡ rights → free_frame s ≡ free → s.entry p page ≡ None → IsTurned s who place (Mirror mirror proc page) (after_fault (read_fault a p page rights None free) (λ before. fills s before a p mirror page))
+    mirror_fills : (rights : Option Rights) (free : Option ℕ) → s.right p page ≡ rights → frame_for s p page Any ≡ free → s.entry p page ≡ None → IsTurned s who place (Mirror mirror proc page) (after_fault (read_fault a p page rights None free) (λ before. fills s before a p mirror page))
     mirror_fills None free is found none = mirror_refused answers.Missing refl (rw is refl)
     mirror_fills (Some rights) None is found none = mirror_refused answers.NoFrame refl (rw is refl)
     mirror_fills (Some rights) (Some f) is found none =
-        let bare = filled (calmed s) a p may unlocked page (free_frame s) (free_frame_free s) f found (rw is refl) none in
+        let bare = filled (calmed s) a p may unlocked page (frame_for s p page Any) (frame_for_free s p page Any) f found (rw is refl) none in
         mirror_ready (take_frame a f ∷ fill a p page f ∷ []) (rw is refl)
         (record {
           ready = record {
@@ -115,7 +116,7 @@ module _ (s : CoreState) (who : Doer) (place : Place) (h : IsOpen (calmed s) who
           there = rw is refl;
           taken = refl;
         })
-    mirror_by None is = mirror_fills (s.right p page) (free_frame s) refl refl is
+    mirror_by None is = mirror_fills (s.right p page) (frame_for s p page Any) refl refl is
 
 pub mirror_turned : (s : CoreState) (who : Doer) (place : Place) → IsSound s → IsOpen (calmed s) who.actor who.proc → AtRest s who.actor → (mirror proc page : ℕ) → who.proc ≡ proc → mirror < most_mirrors → FitsOp s who (Mirror mirror proc page) place → waits_for_locks both_locks who.actor (s.structure who.proc) (s.table who.proc) ≡ None → IsTurned s who place (Mirror mirror proc page) (mirror_turn s who.actor who.proc mirror page (s.entry who.proc page))
 mirror_turned s who place sound h rest mirror proc page named within fits free =
@@ -125,7 +126,7 @@ mirror_turned s who place sound h rest mirror proc page named within fits free =
 
 pub mirror_none : (s : CoreState) (a p mirror page q g : ℕ) (entry : Option Entry) → invalidate (mirror_turn s a p mirror page entry).events q g ≡ false
 mirror_none s a p mirror page q g (Some e) = refl
-mirror_none s a p mirror page q g None = by_rights (s.right p page) (free_frame s)
+mirror_none s a p mirror page q g None = by_rights (s.right p page) (frame_for s p page Any)
   where
     by_rights : (rights : Option Rights) (free : Option ℕ) → invalidate (after_fault (read_fault a p page rights None free) (λ before. fills s before a p mirror page)).events q g ≡ false
     by_rights None free = refl
@@ -136,7 +137,7 @@ mirror_none s a p mirror page q g None = by_rights (s.right p page) (free_frame 
 
 mirror_leaves : (s : CoreState) (a p mirror page m : ℕ) (entry : Option Entry) → (m == mirror) ≡ false → ((run s (mirror_turn s a p mirror page entry).events).mirrored m ≡ s.mirrored m) × ((run s (mirror_turn s a p mirror page entry).events).slot m ≡ s.slot m)
 mirror_leaves s a p mirror page m (Some e) other = (simp other, simp other)
-mirror_leaves s a p mirror page m None other = by_rights (s.right p page) (free_frame s)
+mirror_leaves s a p mirror page m None other = by_rights (s.right p page) (frame_for s p page Any)
   where
     by_rights : (rights : Option Rights) (free : Option ℕ) → ((run s (after_fault (read_fault a p page rights None free) (λ before. fills s before a p mirror page)).events).mirrored m ≡ s.mirrored m) × ((run s (after_fault (read_fault a p page rights None free) (λ before. fills s before a p mirror page)).events).slot m ≡ s.slot m)
     by_rights None free = (refl, refl)

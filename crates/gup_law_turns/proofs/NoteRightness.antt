@@ -27,7 +27,7 @@ use Rattle.gup_spec_journal.specs.Plain.{Judgement, Judged, AreSo, references_af
 use Rattle.gup_spec_journal.specs.Thorough.{Passes, IsDue, IsThoroughAt, IsThoroughOf}
 use Rattle.gup_law_turns.proofs.Puts.{put_same, put_twice, put_own}
 use Rattle.gup_spec_turns.specs.JobPlace.{JobPlace}
-use Rattle.gup_law_turns.proofs.TurnShapes.{WalksTo, took_page, dropped_page, dropped_first, dropped_last, walked, kept_all, refused_slowly, TurnOf, refused, mapped, protected, loaded, filled_slot, looked, stored, gave, took_over, got_one, put_back, took, took_last, passed, passed_last, took_lowest, took_all, pinned_page, pinned_all, pinned_short, unpinned_last, moved_word, moved_last, began, passed_page, shared_page, ended, copied_word, failed_fork, GoesOver, unmaps, discards, TurnAt, idles, waits, goes, unborn_refused, unborn_fork, AtFirst, placed_frame, found_no_frame, found_busy, lacked_frame, found_unmovable}
+use Rattle.gup_law_turns.proofs.TurnShapes.{WalksTo, took_page, dropped_page, dropped_first, dropped_last, walked, kept_all, refused_slowly, TurnOf, refused, mapped, protected, loaded, filled_slot, looked, stored, gave, took_over, got_one, put_back, took, took_last, passed, passed_last, took_lowest, took_all, pinned_page, pinned_all, pinned_short, unpinned_last, moved_word, moved_last, began, passed_page, shared_page, ended, copied_word, failed_share, failed_fork, GoesOver, unmaps, discards, TurnAt, idles, waits, goes, unborn_refused, unborn_fork, AtFirst, placed_frame, found_no_frame, found_busy, lacked_frame, found_unmovable}
 use Rattle.gup_law_turns.proofs.EventLists.{events_of, AllCanHappen}
 
 -- a note is right, and misses no page
@@ -286,6 +286,15 @@ module _ (ops : List Op) (actor : Doer) (s : PlainState) (references : Reference
   judged_pin handle page n want (answers.Pinned pages) refusal = absurd (cc refusal)
   judged_pin handle page n want answer refusal = refl
 
+  -- a fork that fails, of a process that was born
+  fails_right : (child : ℕ) → IsPresent ops actor who place (Fork child) → AllCanHappen s (events.ForkFail child ∷ []) → AreRight ops actor s references place (Event (events.ForkFail child) ∷ Done answers.NoFrame ∷ [])
+  fails_right child is can =
+      let e : PlainEvent = events.ForkFail child in
+      let op : Op = Fork child in
+      let still = stays_unfailed s.birth who child birth can.0 in
+      let judged = answers_undenied false (denial (happened s e) references who (pages_got (happened s e) who.actor) op) answers.NoFrame (denial_born (happened s e) references who (pages_got (happened s e) who.actor) op still) refl in
+      then_right op e answers.NoFrame is (event_right op e can.0 refl tt) still judged tt
+
   -- a turn of each shape
   op_right : (op : Op) {from to : JobPlace} (whats : List What) → TurnOf s references who place op from whats to → IsPresent ops actor who place op → AllCanHappen s (events_of whats) → AreRight ops actor s references place whats
   op_right op whats (refused o answer first refusal at_once slow right passes) is can =
@@ -376,11 +385,8 @@ module _ (ops : List Op) (actor : Doer) (s : PlainState) (references : Reference
       then_right op e answers.Plain is (event_right op e can.0 refl tt) still judged tt
   op_right op whats (copied_word child page word to begun less) is can =
       let e = events.ForkWord who.proc child page word in one_right op (Event e) is (event_right op e can.0 refl tt)
-  op_right op whats (failed_fork child page begun) is can =
-      let e : PlainEvent = events.ForkFail child in
-      let still = stays_unfailed s.birth who child birth can.0 in
-      let judged = answers_undenied false (denial (happened s e) references who (pages_got (happened s e) who.actor) op) answers.NoFrame (denial_born (happened s e) references who (pages_got (happened s e) who.actor) op still) refl in
-      then_right op e answers.NoFrame is (event_right op e can.0 refl tt) still judged tt
+  op_right op whats (failed_share child page begun) is can = fails_right child is can
+  op_right op whats (failed_fork child page begun) is can = fails_right child is can
   op_right op whats turn is can = one_right op Silent is (tt, tt)
 
 pub turn_right : (ops : List Op) (actor : Doer) (references : References) {s : PlainState} {who : Doer} {place : Place} {op : Option Op} {waiting : Option Waiting} {from to : JobPlace} {whats : List What} → TurnAt s references who place op waiting from whats to → slice_get ops place.answered ≡ op → who ≡ concerned actor op → IsFailedUnmapped s → AllCanHappen s (events_of whats) → AreRight ops actor s references place whats

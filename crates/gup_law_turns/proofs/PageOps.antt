@@ -1,5 +1,6 @@
 -- The turns of single operations can be done, have their shapes, and lead where the next turn can go on.
 use Rattle.std.proofs.Common.{◌≡◌, ℕ, ◌+◌, ◌<◌, ◌≤◌, ◌^◌, ◌==◌, Bool, true, false, IsTrue, IsSome, is_some, is_none, not, if◌then◌else◌, List, [], ◌∷◌, ◌++◌, Option, Some, None, Ok, Err, inl, inr, refl, ap, sym, subst, ◌∙◌, eq-or-lt_of_le, zero, suc, arith}
+use Rattle.gup_base.specs.declared.entry.Allowed.TheVariants.{Any}
 use Rattle.std.proofs.lemmas.Bool.Decides.{nat_tests}
 use Rattle.std.specs.Option.{option_map}
 use Rattle.gup_base.specs.declared.entry.Entry.{Entry}
@@ -28,7 +29,7 @@ use Rattle.gup_spec_journal.specs.Follows.{refuses}
 use Rattle.gup_spec_journal.specs.Plain.{IsAnswerOf, pages_got}
 use Rattle.gup_spec_journal.specs.Thorough.{Passes}
 use Rattle.gup_spec_turns.specs.JobPlace.{unbegun}
-use Rattle.gup_spec_turns.specs.CoreTurn.{CoreTurn, answers_with, free_frame, allows_store, frame_in, done_if, silent_or_done}
+use Rattle.gup_spec_turns.specs.CoreTurn.{CoreTurn, answers_with, frame_for, allows_store, frame_in, done_if, silent_or_done}
 use Rattle.gup_spec_turns.specs.PageTurns.{loads, load_turn, stores, lowers_entry, lowers, lowers_for, lowest_page, exit_turn_by}
 use Rattle.gup_spec_turns.proofs.TurnParts.{loads_after, stores_after, store_fault_by, map_turn_by, unmap_turn_by, protect_turn_by, discard_turn_by}
 use Rattle.gup_spec_turns.specs.Turn.{op_turn}
@@ -37,7 +38,7 @@ use Rattle.gup_law_turns.proofs.CalmStates.{Strand, of_pages, AreTurnEvents, put
 use Rattle.gup_law_turns.proofs.FaultTurns.{IsReady, MayFault, may_fault, RefusesPage, missing, forbidden, no_frame, LeadsTo, write_leads, entry_there, writable_there, no_mirror, needs_none, filled}
 use Rattle.gup_law_turns.proofs.KeptPages.{pages_leave}
 use Rattle.gup_law_turns.proofs.Puts.{put_same, put2_same, some_same, none_of}
-use Rattle.gup_law_turns.proofs.PageSearches.{free_frame_free, lowest_some, lowest_none, none_below, undenied_map, denied_map, undenied_protect, denied_protect}
+use Rattle.gup_law_turns.proofs.PageSearches.{frame_for_free, lowest_some, lowest_none, none_below, undenied_map, denied_map, undenied_protect, denied_protect}
 use Rattle.gup_law_turns.proofs.TurnShapes.{references_of, AtFirst, FitsOp, TurnOf, refused, mapped, protected, loaded, stored, took, took_last, passed, passed_last, took_lowest, took_all, GoesOver, unmaps, discards, AtRest, unprepared, at_rest, IsDone, Rests, child_of, strand_of, IsAtOnce, IsAlwaysSlow}
 use Rattle.gup_law_turns.proofs.EventLists.{events_of}
 use Rattle.gup_law_turns.proofs.ShownTurns.{IsOpen, FitsNext, MakesPin, IsTurned, shape_idle, both_free, kinds_behind, told_behind}
@@ -116,19 +117,19 @@ module _ (s : CoreState) (who : Doer) (place : Place) (h : IsOpen s who.actor wh
       (loaded page word (t.word f word) first undenied)
       (λ still. still)
 
-  load_fills : (page word : ℕ) (rights : Option Rights) (free : Option ℕ) → AreUnlocked s p → word < words → AtFirst place → s.right p page ≡ rights → free_frame s ≡ free → s.entry p page ≡ None → IsTurned s who place (Load page word) (loads_after s (read_fault a p page rights None free) a p page word)
+  load_fills : (page word : ℕ) (rights : Option Rights) (free : Option ℕ) → AreUnlocked s p → word < words → AtFirst place → s.right p page ≡ rights → frame_for s p page Any ≡ free → s.entry p page ≡ None → IsTurned s who place (Load page word) (loads_after s (read_fault a p page rights None free) a p page word)
   load_fills page word None free unlocked within first is found none = answered (Load page word) answers.Missing (refl, refl, tt) first refl tt tt (rw is refl) tt
   load_fills page word (Some rights) None unlocked within first is found none = answered (Load page word) answers.NoFrame (refl, refl, tt) first refl tt tt (rw is refl) tt
   load_fills page word (Some rights) (Some f) unlocked within first is found none =
       let before = take_frame a f ∷ fill a p page f ∷ [] in
-      load_ready page word before within first (rw is refl) (filled s a p may unlocked page (free_frame s) (free_frame_free s) f found (rw is refl) none)
+      load_ready page word before within first (rw is refl) (filled s a p may unlocked page (frame_for s p page Any) (frame_for_free s p page Any) f found (rw is refl) none)
       (rw (put2_same p page (Some (entry_of f false)) s.entry) refl)
 
   load_by : (page word : ℕ) (entry : Option Entry) → waits_for_locks (both_if (is_none entry)) a (s.structure p) (s.table p) ≡ None → word < words → AtFirst place → s.entry p page ≡ entry → IsTurned s who place (Load page word) (load_turn s a p page word entry)
   load_by page word (Some e) free within first is =
       load_ready page word [] within first (named_load page e is (s.right p page) refl) (needs_none s a p may) (rw is refl)
   load_by page word None free within first is =
-      load_fills page word (s.right p page) (free_frame s) (both_free s a p h.sound job free) within first refl refl is
+      load_fills page word (s.right p page) (frame_for s p page Any) (both_free s a p h.sound job free) within first refl refl is
 
   -- store, after the events of a fault
 
@@ -167,8 +168,8 @@ module _ (s : CoreState) (who : Doer) (place : Place) (h : IsOpen s who.actor wh
       store_ready page word value [] within first (named_store page e here allowed (s.right p page) refl) (needs_none s a p may)
       (rw here allowed)
   store_by page word value entry false free within first here barred =
-      store_leads page word value (write_fault a p page (s.right p page) entry s.mark s.count (free_frame s)) within first
-      (write_leads s a p may (both_free s a p h.sound job free) page (free_frame s) (free_frame_free s) (s.right p page) entry refl here)
+      store_leads page word value (write_fault a p page (s.right p page) entry s.mark s.count (frame_for s p page Any)) within first
+      (write_leads s a p may (both_free s a p h.sound job free) page (frame_for s p page Any) (frame_for_free s p page Any) (s.right p page) entry refl here)
 
   -- The other operations need both locks, which are free.
   module _ (unlocked : AreUnlocked s p) where

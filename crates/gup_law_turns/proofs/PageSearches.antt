@@ -1,5 +1,5 @@
 -- What the searches of the turn table find: the free frame, the lowest page, and what denies a mapping or a protection.
-use Rattle.std.proofs.Common.{◌≡◌, ℕ, ◌+◌, ◌<◌, ◌≤◌, ◌==◌, ◌||◌, nat_lt, Bool, true, false, IsTrue, IsSome, is_some, not, cond, Option, Some, None, refl, sym, ap, subst, ◌∙◌, inl, inr, eq-or-lt_of_le, zero, suc, arith}
+use Rattle.std.proofs.Common.{◌≡◌, ℕ, ◌+◌, ◌<◌, ◌≤◌, ◌==◌, ◌||◌, nat_lt, Bool, true, false, IsTrue, IsSome, is_some, not, cond, Option, Some, None, refl, sym, ap, subst, ◌∙◌, inl, inr, eq-or-lt_of_le, zero, suc, arith, if◌then◌else◌}
 use Rattle.std.proofs.lemmas.Bool.Decides.{nat_tests}
 use Rattle.gup_base.specs.declared.entry.Allowed.{Allowed}
 use Rattle.gup_base.specs.declared.entry.Allowed.TheVariants.{Any, Only}
@@ -11,10 +11,10 @@ use Rattle.gup_plain.specs.declared.answer.Answer.{Answer}
 use Rattle.gup_plain.specs.declared.answer.Answer.TheVariants as answers
 use Rattle.gup_script.specs.declared.op.Op.TheVariants.{Map, Protect}
 use Rattle.gup_spec_events.specs.State.{CoreState}
-use Rattle.gup_spec_events.specs.Event.{IsAllowed}
+use Rattle.gup_spec_events.specs.Event.{IsAllowed, has_tables}
 use Rattle.gup_plain.specs.Denial.{any_below, any_unmapped, map_denial, protect_denial}
 use Rattle.gup_spec_journal.specs.Follows.{refuses}
-use Rattle.gup_spec_turns.specs.CoreTurn.{free_from, free_in, free_frame}
+use Rattle.gup_spec_turns.specs.CoreTurn.{free_from, free_in, frame_for}
 use Rattle.gup_law_turns.proofs.Puts.{some_same}
 
 -- the lowest number that passes a test: it is in range and passes, and none before it does
@@ -95,9 +95,13 @@ none_free_in s Any is f below there none = none_free_from s 0 (s.movable + s.nor
 none_free_in s (Only Movable) is f below there none = none_free_from s 0 s.movable is f (omega arith) (omega arith) none
 none_free_in s (Only Normal) is f below there none = none_free_from s s.movable s.normal is f there below none
 
--- the same of both zones
-pub free_frame_free : (s : CoreState) (f : ℕ) → free_frame s ≡ Some f → (f < s.movable + s.normal) × (s.count f ≡ 0)
-free_frame_free s f is = free_in_free s Any f is
+-- the frame that is found for a page is free, and the page lacks no table
+pub frame_for_free : (s : CoreState) (p page : ℕ) (allowed : Allowed) (f : ℕ) → frame_for s p page allowed ≡ Some f → (f < s.movable + s.normal) × (s.count f ≡ 0) × (has_tables s p page ≡ true)
+frame_for_free s p page allowed f = go (has_tables s p page) refl
+  where
+    go : (may : Bool) → has_tables s p page ≡ may → (if may then free_in s allowed else None) ≡ Some f → (f < s.movable + s.normal) × (s.count f ≡ 0) × (has_tables s p page ≡ true)
+    go true has found = let free = free_in_free s allowed f found in (free.0, free.1, has)
+    go false lacks found = absurd (cc found)
 
 -- no number below n passes
 pub none_below : (n : ℕ) (test : ℕ → Bool) → any_below n test ≡ false → (k : ℕ) → k < n → test k ≡ false

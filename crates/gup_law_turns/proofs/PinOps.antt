@@ -32,7 +32,7 @@ use Rattle.gup_spec_journal.specs.Plain.{IsAnswerOf, pages_got, refusal_by_cause
 use Rattle.gup_spec_turns.specs.JobPlace.{JobPlace, job_place, place_in, KeepsFrame, unbegun, moving_page}
 use Rattle.gup_spec_turns.specs.PinPlace.{HasTaken, IsTakenPage, IsMovingPin, turns_over, most_over}
 use Rattle.gup_law_turns.specs.Standing.{StandsHandle}
-use Rattle.gup_spec_turns.specs.CoreTurn.{free_in, zones_of, entry_in}
+use Rattle.gup_spec_turns.specs.CoreTurn.{free_in, frame_for, zones_of, entry_in}
 use Rattle.gup_spec_turns.specs.PinTurns.{cause_of, pin_fault, moves_first, pins, pins_in, clears_behind, clears_or_pins, pins_behind, ends_pin, ends_moved, pins_moved, moved_turn, pin_turn_by}
 use Rattle.gup_script.specs.declared.op.Op.{Op}
 use Rattle.gup_spec_turns.specs.Cost.{pin_turns, walk_turns}
@@ -41,7 +41,7 @@ use Rattle.gup_spec_turns.specs.Waits.{waits_for_locks, both_locks}
 use Rattle.gup_law_turns.proofs.CalmStates.{of_pages, of_pin, AreTurnEvents, taking, putting, raising, pinning, making, clearing, counting_moved, placing_frame, restoring}
 use Rattle.gup_law_turns.proofs.FaultTurns.{IsReady, Allows, MayFault, may_fault, IsFree, RefusesPage, missing, forbidden, no_frame, LeadsTo, pin_leads, no_mirror_at, differ}
 use Rattle.gup_law_turns.proofs.KeptPages.{pages_leave}
-use Rattle.gup_law_turns.proofs.PageSearches.{free_in_free, free_in_allowed}
+use Rattle.gup_law_turns.proofs.PageSearches.{free_in_free, free_in_allowed, frame_for_free}
 use Rattle.gup_law_turns.proofs.Puts.{put_same, put_other, put2_same}
 use Rattle.gup_law_turns.proofs.TurnShapes.{references_of, FitsOp, TurnOf, refused, pinned_page, pinned_all, pinned_short, AtRest, unprepared, Rests, FitsPin, TriesAt, IsSlowTurn, refused_slowly, RefusesAt, IsAtOnce, cleared_page, counted_cleared, lacked_frame, found_unmovable, at_rest}
 use Rattle.gup_law_turns.proofs.ShownTurns.{IsOpen, MakesPin, IsTurned, both_free, kinds_behind, told_behind, idle_place}
@@ -476,7 +476,6 @@ module _ (s : CoreState) (who : Doer) (place : Place) (h : IsOpen s who.actor wh
           calm = record { unmirrored = may.calm.unmirrored };
           birth = may.birth;
           job = may.job;
-          flat = may.flat;
           counted = may.counted;
           marked = may.marked;
         }
@@ -586,12 +585,12 @@ module _ (s : CoreState) (who : Doer) (place : Place) (h : IsOpen s who.actor wh
     behind_by (Ok es) walks first to =
         pins_here es (ready_later es (fits.flag walks (walked_before walks)) to.1 to.2) (0 + 1 == n) (ap (λ (k : ℕ). k + 1 == n) first) to.0
 
-    -- the free frame that its turn takes, of the zones that the pin may have
+    -- the frame that its turn takes, of the zones that the pin may have
     abbrev frame : Option ℕ
-    frame = free_in s (zones_of want)
+    frame = frame_for s p here (zones_of want)
 
-    is_free : IsFree s frame
-    is_free = free_in_free s (zones_of want)
+    is_free : IsFree s p here frame
+    is_free = frame_for_free s p here (zones_of want)
 
     none_by : (walks : Bool) → fast ≡ walks → got ≡ 0 → AreUnlocked s p → IsTurned s who place op (pin_turn_by (pin_fault s a p here want.write frame) s a p handle here n 0 want walks)
     none_by false never is free = first_by (pin_fault s a p here want.write frame) never is (pin_leads raised a p raised_may free here frame is_free want.write)

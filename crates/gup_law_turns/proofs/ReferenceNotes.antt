@@ -1,5 +1,6 @@
 -- Who has got references after a turn, by its notes, is who has got them in the core state then.
 use Rattle.std.proofs.Common.{◌≡◌, ℕ, ◌==◌, Bool, true, false, if◌then◌else◌, List, [], ◌∷◌, Option, Some, None, slice_get, refl, ap, sym, subst, ◌∙◌, rules}
+use Rattle.gup_base.specs.declared.entry.Allowed.TheVariants.{Any}
 use Rattle.gup_base.specs.declared.entry.Entry.{Entry}
 use Rattle.gup_base.specs.declared.entry.Rights.{Rights}
 use Rattle.gup_plain.specs.Put.{put}
@@ -18,7 +19,7 @@ use Rattle.gup_spec_events.specs.Fault.{read_fault}
 use Rattle.gup_spec_journal.specs.Denial.{References, has_reference}
 use Rattle.gup_spec_journal.specs.Place.{Place, Doer, doer_of, place_after, ops_of, birth_for}
 use Rattle.gup_spec_journal.specs.Plain.{references_after}
-use Rattle.gup_spec_turns.specs.CoreTurn.{CoreTurn, answers_with, free_frame}
+use Rattle.gup_spec_turns.specs.CoreTurn.{CoreTurn, answers_with, frame_for}
 use Rattle.gup_spec_turns.specs.JobPlace.{JobPlace}
 use Rattle.gup_spec_turns.specs.PinTurns.{gets, get_turn, got_frame, got_by, put_turn}
 use Rattle.gup_spec_turns.specs.Run.{RunState, run_after, op_in, waiting_in, core_turn_by, core_turn_in}
@@ -113,7 +114,7 @@ module _ (ops : List Op) (s : CoreState) (who : Doer) (place : Place) where
     get_entry (Some e) =
         let turn = gets s [] who.actor who.proc handle page in
         by_note (Some (Get handle page)) (Done answers.Plain) (references_of (run s turn.events)) is (changed_by handle (Some (who.actor, _)) s.got)
-    get_entry None = get_fault (s.right who.proc page) (free_frame s)
+    get_entry None = get_fault (s.right who.proc page) (frame_for s who.proc page Any)
 
     get_alike : (birth : Birth) → AreAlike (turn_at birth (answers_with answers.Unborn) (get_turn s who.actor who.proc handle page (s.entry who.proc page)))
     get_alike failed = by_note (Some (Get handle page)) (Done answers.Unborn) (references_of s) is refl

@@ -1,6 +1,7 @@
 -- The turns that get a reference of a page's frame and put one back can be done, have their shapes, and lead where the next
 -- turn can go on.
 use Rattle.std.proofs.Common.{◌≡◌, ℕ, Bool, true, false, IsTrue, IsSome, List, [], ◌∷◌, ◌++◌, Option, Some, None, eqb-true, refl, ap, sym, subst, ◌∙◌}
+use Rattle.gup_base.specs.declared.entry.Allowed.TheVariants.{Any}
 use Rattle.gup_base.specs.declared.entry.Entry.{Entry}
 use Rattle.gup_base.specs.declared.entry.Rights.{Rights}
 use Rattle.gup_plain.specs.Denial.{load_denial, holder_denial}
@@ -15,14 +16,14 @@ use Rattle.gup_spec_journal.specs.Denial.{has_reference}
 use Rattle.gup_spec_journal.specs.Follows.{refuses}
 use Rattle.gup_spec_journal.specs.Place.{Place, Doer}
 use Rattle.gup_spec_journal.specs.Plain.{IsAnswerOf}
-use Rattle.gup_spec_turns.specs.CoreTurn.{answers_with, free_frame, entry_in}
+use Rattle.gup_spec_turns.specs.CoreTurn.{answers_with, frame_for, entry_in}
 use Rattle.gup_spec_turns.specs.PinTurns.{gets, get_turn, got_frame, got_by, put_turn}
 use Rattle.gup_spec_turns.specs.Waits.{waits_for_locks, locks_needed}
 use Rattle.gup_spec_turns.proofs.TurnParts.{gets_after, put_turn_by}
 use Rattle.gup_law_turns.proofs.CalmStates.{of_get, getting, putting_back}
 use Rattle.gup_law_turns.proofs.FaultTurns.{IsReady, MayFault, may_fault, needs_none, filled}
 use Rattle.gup_law_turns.proofs.PageOps.{named_load}
-use Rattle.gup_law_turns.proofs.PageSearches.{free_frame_free}
+use Rattle.gup_law_turns.proofs.PageSearches.{frame_for_free}
 use Rattle.gup_law_turns.proofs.Puts.{put2_same}
 use Rattle.gup_law_turns.proofs.ShownTurns.{IsOpen, IsQuiet, IsTurned, shape_idle, both_free, kinds_behind, told_behind}
 use Rattle.gup_law_turns.proofs.TurnShapes.{AtFirst, FitsOp, Rests, refused, got_one, put_back, AtRest}
@@ -82,13 +83,13 @@ module _ (s : CoreState) (who : Doer) (place : Place) (h : IsOpen s who.actor wh
       }
 
   module _ (unlocked : AreUnlocked s p) where
-    get_fills : (rights : Option Rights) (free : Option ℕ) → s.right p page ≡ rights → free_frame s ≡ free → s.entry p page ≡ None → IsTurned s who place (Get handle page) (gets_after s (read_fault a p page rights None free) a p handle page)
+    get_fills : (rights : Option Rights) (free : Option ℕ) → s.right p page ≡ rights → frame_for s p page Any ≡ free → s.entry p page ≡ None → IsTurned s who place (Get handle page) (gets_after s (read_fault a p page rights None free) a p handle page)
     get_fills None free is found none = get_refused answers.Missing refl (rw is refl)
     get_fills (Some rights) None is found none = get_refused answers.NoFrame refl (rw is refl)
     get_fills (Some rights) (Some f) is found none =
         get_ready (take_frame a f ∷ fill a p page f ∷ []) (rw is refl)
         (record {
-          ready = filled s a p may unlocked page (free_frame s) (free_frame_free s) f found (rw is refl) none;
+          ready = filled s a p may unlocked page (frame_for s p page Any) (frame_for_free s p page Any) f found (rw is refl) none;
           unlocked = unlocked;
           there = rw (put2_same p page (Some (entry_of f false)) s.entry) refl;
           got = refl;
@@ -99,7 +100,7 @@ module _ (s : CoreState) (who : Doer) (place : Place) (h : IsOpen s who.actor wh
     get_by (Some e) is =
         get_ready [] (named_load s who place h rests page e is (s.right p page) refl)
         (record { ready = needs_none s a p may; unlocked = unlocked; there = rw is refl; got = refl; taken = refl })
-    get_by None is = get_fills (s.right p page) (free_frame s) refl refl is
+    get_by None is = get_fills (s.right p page) (frame_for s p page Any) refl refl is
 
 pub get_turned : (s : CoreState) (who : Doer) (place : Place) → IsOpen s who.actor who.proc → (handle page : ℕ) → s.got handle ≡ None → FitsOp s who (Get handle page) place → waits_for_locks (locks_needed s who.actor who.proc place.far (Get handle page)) who.actor (s.structure who.proc) (s.table who.proc) ≡ None → IsTurned s who place (Get handle page) (get_turn s who.actor who.proc handle page (s.entry who.proc page))
 get_turned s who place h handle page ungot fits free =

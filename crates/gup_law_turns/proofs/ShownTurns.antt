@@ -10,14 +10,13 @@ use Rattle.gup_plain.specs.declared.note.Waiting.{Waiting}
 use Rattle.gup_plain.specs.declared.note.Waiting.TheVariants as waitings
 use Rattle.gup_script.specs.declared.op.Op.{Op}
 use Rattle.gup_script.specs.declared.op.Op.TheVariants.{Pin, Unpin, Give, Take, Transfer}
-use Rattle.gup_spec_tables.specs.Tables.{lacks}
 use Rattle.gup_spec_events.specs.State.{CoreState, Job, idle, plain_of}
-use Rattle.gup_spec_events.specs.Event.{CoreEvent, AreUnlocked, has_tables, tree_in, told, run}
+use Rattle.gup_spec_events.specs.Event.{CoreEvent, AreUnlocked, told, run}
 use Rattle.gup_law_base.specs.Sound.{IsSound, keeps_table, keeps_structure}
 use Rattle.gup_law_events.specs.Law.{with_told, all_told}
 use Rattle.gup_spec_journal.specs.Place.{Place, Doer, place_after}
 use Rattle.gup_spec_turns.specs.JobPlace.{JobPlace, job_place, place_in, unbegun}
-use Rattle.gup_law_turns.specs.Standing.{StandsHandle}
+use Rattle.gup_law_turns.specs.Standing.{CopyStands, StandsHandle}
 use Rattle.gup_spec_turns.specs.CoreTurn.{CoreTurn}
 use Rattle.gup_spec_turns.specs.Waits.{held_by_other, waits_for_locks, first_waiting, both_locks}
 use Rattle.gup_spec_turns.proofs.TurnParts.{waits_at}
@@ -32,7 +31,7 @@ pub record IsOpen (s : CoreState) (a p : ℕ) : Type 0 where
   pub calm : IsCalm s
   pub there : AreCountedThere s
   pub rest : AtRest s a
-  pub flat : s.needs_tables ≡ false
+  pub copies : CopyStands s a
   pub birth : s.birth p ≡ born
 
 -- the same of an operation that is of no process
@@ -41,11 +40,7 @@ pub record IsQuiet (s : CoreState) (a : ℕ) : Type 0 where
   pub calm : IsCalm s
   pub there : AreCountedThere s
   pub rest : AtRest s a
-  pub flat : s.needs_tables ≡ false
-
--- where entries need no tables, any page may get one
-pub flat_tables : (s : CoreState) (p page : ℕ) → s.needs_tables ≡ false → has_tables s p page ≡ true
-flat_tables s p page flat = ap (λ (needs : Bool). if needs then lacks (tree_in s p) page == 0 else true) flat
+  pub copies : CopyStands s a
 
 -- After notes with an answer the actor is in the middle of nothing; after others it stands where its operation can.
 abbrev pub FitsNext : CoreState → Doer → Option Op → Place → List What → Type 0

@@ -15,7 +15,7 @@ use Rattle.gup_law_tables.specs.Standing.{TablesStand}
 use Rattle.gup_spec_journal.specs.Place.{Place, Doer, doer_of, birth_for}
 use Rattle.gup_plain.specs.Pages.{sum_below, mapped_pages}
 use Rattle.gup_spec_turns.specs.JobPlace.{place_in}
-use Rattle.gup_law_turns.specs.Standing.{StandsHandle, back_in, IsUnmade}
+use Rattle.gup_law_turns.specs.Standing.{CopyStands, StandsHandle, back_in, IsUnmade}
 use Rattle.gup_spec_turns.specs.Run.{RunState, op_in}
 use Rattle.gup_spec_turns.specs.CoreTurn.{CoreTurn}
 use Rattle.gup_script.specs.Limits.{most_mirrors}
@@ -44,8 +44,7 @@ IsAhead place k = (place.answered < k) ⊎ ((place.answered ≡ k) × (place.far
 pub record Stands (script : ScriptValue) (r : RunState) : Type 0 where
   pub sound : IsSound r.core
   pub tables : TablesStand r.core
-  -- entries need no tables
-  pub flat : r.core.needs_tables ≡ false
+  pub copies : (a : ℕ) → CopyStands r.core a
   -- no slot past the last one is filled
   pub slots : (m f : ℕ) → r.core.mirrored m ≡ Some f → m < most_mirrors
   pub there : AreCountedThere r.core
@@ -73,5 +72,6 @@ pub record IsTaken (s : CoreState) (who : Doer) (place : Place) (op : Option Op)
   pub shape : TurnAt (plain_of s) (references_of s) who place op waiting (place_in s who.actor) turn.whats (place_in (run s turn.events) who.actor)
   pub next : FitsNext (run s turn.events) who op place turn.whats
   pub pin : (o : Op) → op ≡ Some o → waiting ≡ None → birth_for s.birth who ≡ born → MakesPin s (run s turn.events) who.actor o
+  pub copies : CopyStands (run s turn.events) who.actor
   -- the child of a fork that fails has no entries after it
   pub emptied : (child page : ℕ) → op ≡ Some (Fork child) → (run s turn.events).birth child ≡ failed → (run s turn.events).entry child page ≡ None

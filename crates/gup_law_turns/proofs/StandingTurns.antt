@@ -1,5 +1,6 @@
 -- What stands between two turns of a run stands at its start, and each turn keeps it.
 use Rattle.std.proofs.Common.{◌≡◌, ℕ, ◌+◌, ◌<◌, ◌≤◌, ◌==◌, ◌&&◌, Bool, true, false, List, map, length, slice_get, Option, Some, None, IsSome, ◌⊎◌, inl, inr, refl, sym, ap, ◌∙◌, subst, eqb-true, if◌then◌else◌, arith}
+use Rattle.gup_law_turns.proofs.CopiedPages.{IsCopyJob, no_copy, not_copying, fits_copy_none}
 use Rattle.std.proofs.Math.Path.{subst₂}
 use Rattle.std.proofs.lemmas.Bool.Decides.{nat_tests}
 use Rattle.std.proofs.lemmas.Option.{slice_get_within}
@@ -18,9 +19,9 @@ use Rattle.gup_script.specs.Script.{ScriptValue, Process, process_at}
 use Rattle.gup_script.specs.declared.op.Op.{Op}
 use Rattle.gup_script.specs.declared.op.Op.TheVariants.{Pin, Unpin, Get, Transfer, Fork, Exit, Move}
 use Rattle.gup_spec_events.specs.State.{CoreState, Job, idle, forking, between, counted, copying, plain_of, core_start, moving, Taken, pending_of, walking, WalkStep, read}
-use Rattle.gup_spec_events.specs.Event.{run}
+use Rattle.gup_spec_events.specs.Event.{run, has_tables, tree_in}
 use Rattle.gup_law_base.specs.Sound.{IsSound}
-use Rattle.gup_spec_tables.specs.Tables.{table_numbers}
+use Rattle.gup_spec_tables.specs.Tables.{table_numbers, lacks, placed_tables}
 use Rattle.gup_spec_events.proofs.Runs.{flag_after}
 use Rattle.gup_law_tables.proofs.TableRuns.{first_stand, stand_run}
 use Rattle.gup_spec_journal.specs.Denial.{References}
@@ -28,7 +29,7 @@ use Rattle.gup_spec_journal.specs.Order.{plain_behind}
 use Rattle.gup_spec_journal.specs.Place.{Place, Doer, doer, place_behind, process_of, ops_of, present_op, birth_by, birth_for, is_born, starts_born, doer_of, first_place}
 use Rattle.gup_spec_turns.specs.JobPlace.{JobPlace, job_place, place_in, IsForking, HasCounted, KeepsFrame, IsMoving}
 use Rattle.gup_spec_turns.specs.PinPlace.{StandsAtPage, IsReadThere}
-use Rattle.gup_law_turns.specs.Standing.{StandsHandle, given_back, back_in, IsUnmade}
+use Rattle.gup_law_turns.specs.Standing.{StandsHandle, given_back, back_in, IsUnmade, CopyStands}
 use Rattle.gup_spec_turns.specs.Run.{RunState, run_start, run_after, op_in, waiting_in, core_turn_by, core_turn_in}
 use Rattle.gup_spec_journal.specs.Plain.{pages_got}
 use Rattle.gup_spec_turns.specs.CoreTurn.{CoreTurn}
@@ -565,6 +566,30 @@ module _ (script : ScriptValue) (valid : IsScript script) (r : RunState) (h : St
     op_kept law its (Some Exit) is unforked yet fits = rests_kept fits
     op_kept law its o is unforked yet fits = (rests_kept fits.0, fits.1)
 
+    -- the child of its fork keeps its tables
+
+    tables_kept : (k child : ℕ) → ForksAt script b k child → s.birth child ≡ growing q → (page : ℕ) → has_tables t child page ≡ has_tables s child page
+    tables_kept k child forks grows page =
+        ap (λ (needs : Bool). if needs then lacks (tree_in t child) page == 0 else true) (flag_after s turn.events)
+        ∙ ap (λ (o : OfProcess). if s.needs_tables then lacks (record { entry = o.entry; place = o.place; tables = placed_tables o.place; room = table_numbers }) page == 0 else true) (child_kept k child forks grows)
+
+    copy_kept : (k child : ℕ) (its : Place) (job : Job) → ForksAt script b k child → s.job b ≡ job → FitsFork s b q child its job (s.prepared b) → CopyStands t b
+    copy_kept k child its (forking u v done (copying page n)) forks is fits = λ p c g word to pages job has.
+        let same : forking u v done (copying page n) ≡ forking p c pages (copying g word) = sym is ∙ sym job_kept ∙ job in
+        let into : c ≡ child = cc (same, fits.1.0.into) in
+        subst (λ (x : ℕ). has_tables t x g ≡ true) (sym into)
+        (tables_kept k child forks fits.1.0.birth g ∙ subst (λ (x : ℕ). has_tables s x g ≡ true) into (h.copies b p c g word to pages (sym job_kept ∙ job) (sym prepared_kept ∙ has)))
+    copy_kept k child its job forks is fits = no_copy t b job (job_kept ∙ is) (λ copies. absurd copies)
+
+    copies_at : (its : Place) (o : Option Op) → present_op script b its ≡ o → FitsAt s (doer_of script b o) o its → CopyStands t b
+    copies_at its (Some (Fork child)) is fits = copy_kept its.answered child its (s.job b) is refl fits.1
+    copies_at its (Some o) is fits =
+        not_copying t b (λ copies. fits_copy_none s (doer_of script b (Some o)) o its tt fits (subst IsCopyJob job_kept copies))
+    copies_at its None is fits = no_copy t b idle (job_kept ∙ fits.0.0) (λ copies. copies)
+
+    copies_other : CopyStands t b
+    copies_other = copies_at (r.places b) (present_op script b (r.places b)) refl (h.fits b)
+
   fits_other : Law → (b : ℕ) → (b ≡ a → ⊥) → FitsHere script t b (r.places b)
   fits_other law b other =
       op_kept b other law (r.places b) (present_op script b (r.places b)) refl
@@ -578,6 +603,14 @@ module _ (script : ScriptValue) (valid : IsScript script) (r : RunState) (h : St
       elim (same_or_apart b a) [
         | inl same ↦ subst (AtRest t) (sym same) turns.done.rest
         | inr other ↦ rest_kept b other
+      ]
+
+  -- a page that is copied has its tables after the turn of its actor, and keeps them in those of others
+  copies_on : (b : ℕ) → CopyStands t b
+  copies_on b =
+      elim (same_or_apart b a) [
+        | inl same ↦ subst (CopyStands t) (sym same) turns.copies
+        | inr other ↦ copies_other b other
       ]
 
   -- a process that failed in the turn is the child of its fork; one that had failed before has no entries still
@@ -617,7 +650,7 @@ module _ (script : ScriptValue) (valid : IsScript script) (r : RunState) (h : St
       record {
         sound = (leads law s turn.events h.sound turns.done.can).sound;
         tables = stand_run s turn.events h.tables turns.done.can;
-        flat = flag_after s turn.events ∙ h.flat;
+        copies = copies_on;
         slots = stays_within s a p c (strand_of op) turn.events turns.done.kinds h.slots;
         there = stays_counted law s a p c (strand_of op) turn.events turns.done.kinds h.sound turns.done.can h.there;
         rest = rest_on;
@@ -703,7 +736,7 @@ stands_first starts script valid =
     record {
       sound = starts script.frames.movable script.frames.normal script.frames.tables false (starts_born script);
       tables = first_stand script.frames.movable script.frames.normal script.frames.tables false (starts_born script) (few_tables script valid);
-      flat = refl;
+      copies = λ a p c page word to done job. absurd (cc job);
       slots = λ m f filled. absurd (cc filled);
       there = λ f some. absurd (some refl);
       rest = λ a. record { prepared = refl; owed = refl };

@@ -28,33 +28,57 @@ are_behind : (a q : ℕ) (before es : List CoreEvent) → AreTableEvents a q bef
 are_behind a q [] es first more = more
 are_behind a q (e ∷ before) es first more = (first.0, are_behind a q before es first.1 more)
 
-reclaims_are : (s : CoreState) (a q : ℕ) → AreTableEvents a q (reclaims s a q)
-reclaims_are s a q = go (s.walks q == 0)
+-- growth takes no table out
+pub data AddsTables (a q : ℕ) : CoreEvent → Type 0 where
+  adds_one_to : (page table : ℕ) → AddsTables a q (add_table a q page table)
+  frees_all : AddsTables a q (reclaim a q)
+
+abbrev pub OnlyAdds : (a q : ℕ) → List CoreEvent → Type 0
+OnlyAdds a q [] = Unit {0}
+OnlyAdds a q (e ∷ es) = AddsTables a q e × OnlyAdds a q es
+
+adds_behind : (a q : ℕ) (before es : List CoreEvent) → OnlyAdds a q before → OnlyAdds a q es → OnlyAdds a q (before ++ es)
+adds_behind a q [] es first more = more
+adds_behind a q (e ∷ before) es first more = (first.0, adds_behind a q before es first.1 more)
+
+reclaims_add : (s : CoreState) (a q : ℕ) → OnlyAdds a q (reclaims s a q)
+reclaims_add s a q = go (s.walks q == 0)
   where
-    go : (b : Bool) → AreTableEvents a q (if b then reclaim a q ∷ [] else [])
-    go true = (reclaims_all, tt)
+    go : (b : Bool) → OnlyAdds a q (if b then reclaim a q ∷ [] else [])
+    go true = (frees_all, tt)
     go false = tt
 
-one_is : (a q page : ℕ) (o : Option ℕ) → AreTableEvents a q (adds_one a q page o)
-one_is a q page None = tt
-one_is a q page (Some table) = (adds_it page table, tt)
+one_adds : (a q page : ℕ) (o : Option ℕ) → OnlyAdds a q (adds_one a q page o)
+one_adds a q page None = tt
+one_adds a q page (Some table) = (adds_one_to page table, tt)
 
-adds_are : (s : CoreState) (a q page n : ℕ) → AreTableEvents a q (adds s a q page n)
-adds_are s a q page zero = tt
-adds_are s a q page (suc n) =
+adds_add : (s : CoreState) (a q page n : ℕ) → OnlyAdds a q (adds s a q page n)
+adds_add s a q page zero = tt
+adds_add s a q page (suc n) =
     let one : List CoreEvent = adds_one a q page (lowest_table s) in
-    are_behind a q one (adds (run s one) a q page n) (one_is a q page (lowest_table s)) (adds_are (run s one) a q page n)
+    adds_behind a q one (adds (run s one) a q page n) (one_adds a q page (lowest_table s)) (adds_add (run s one) a q page n)
 
-adds_all_are : (s : CoreState) (a q page : ℕ) → AreTableEvents a q (adds_all s a q page)
-adds_all_are s a q page = go (has_enough s q page)
+adds_all_add : (s : CoreState) (a q page : ℕ) → OnlyAdds a q (adds_all s a q page)
+adds_all_add s a q page = go (has_enough s q page)
   where
-    go : (b : Bool) → AreTableEvents a q (if b then adds s a q page (lacks (tree_in s q) page) else [])
-    go true = adds_are s a q page (lacks (tree_in s q) page)
+    go : (b : Bool) → OnlyAdds a q (if b then adds s a q page (lacks (tree_in s q) page) else [])
+    go true = adds_add s a q page (lacks (tree_in s q) page)
     go false = tt
+
+pub grows_add : (s : CoreState) (a q page : ℕ) → OnlyAdds a q (grows s a q page)
+grows_add s a q page =
+    adds_behind a q (reclaims s a q) (adds_all (run s (reclaims s a q)) a q page) (reclaims_add s a q) (adds_all_add (run s (reclaims s a q)) a q page)
+
+adding_are : (a q : ℕ) (es : List CoreEvent) → OnlyAdds a q es → AreTableEvents a q es
+adding_are a q [] adds = tt
+adding_are a q (e ∷ es) adds = (go adds.0, adding_are a q es adds.1)
+  where
+    go : {e : CoreEvent} → AddsTables a q e → IsTableEvent a q e
+    go (adds_one_to page table) = adds_it page table
+    go frees_all = reclaims_all
 
 pub grows_are : (s : CoreState) (a q page : ℕ) → AreTableEvents a q (grows s a q page)
-grows_are s a q page =
-    are_behind a q (reclaims s a q) (adds_all (run s (reclaims s a q)) a q page) (reclaims_are s a q) (adds_all_are (run s (reclaims s a q)) a q page)
+grows_are s a q page = adding_are a q (grows s a q page) (grows_add s a q page)
 
 took_is : (a q page : ℕ) (o : Option ℕ) → AreTableEvents a q (takes_one a q page o)
 took_is a q page None = tt
@@ -69,7 +93,7 @@ takes_are s a q page (suc n) =
 pub retires_are : (s : CoreState) (a q page : ℕ) → AreTableEvents a q (retires s a q page)
 retires_are s a q page =
     let t : CoreState = run s (takes_out s a q page 3) in
-    are_behind a q (takes_out s a q page 3) (reclaims t a q) (takes_are s a q page 3) (reclaims_are t a q)
+    are_behind a q (takes_out s a q page 3) (reclaims t a q) (takes_are s a q page 3) (adding_are a q (reclaims t a q) (reclaims_add t a q))
 
 pub at_are : (s : CoreState) (a q page : ℕ) (enough : Bool) → AreTableEvents a q (retires_at s a (unless enough (spot q page)))
 at_are s a q page true = tt

@@ -1,11 +1,12 @@
 -- A turn that changes page tables before it and after it is what it is without that: it can happen, it has its shape, and the actor
 -- stands right after it.
 use Rattle.std.proofs.Common.{◌≡◌, ℕ, ◌||◌, Bool, true, false, if◌then◌else◌, List, [], ◌∷◌, ◌++◌, Option, Some, None, ◌⊎◌, refl, sym, ap, ◌∙◌, subst}
+use Rattle.gup_law_turns.proofs.CopiedPages.{IsCopyJob, IsCopying}
 use Rattle.gup_plain.specs.State.{Noted}
 use Rattle.gup_plain.specs.declared.note.What.{What}
 use Rattle.gup_script.specs.declared.op.Op.{Op}
-use Rattle.gup_spec_events.specs.State.{CoreState, plain_of}
-use Rattle.gup_spec_events.specs.Event.{CoreEvent, told, run}
+use Rattle.gup_spec_events.specs.State.{CoreState, forking, copying, plain_of}
+use Rattle.gup_spec_events.specs.Event.{CoreEvent, has_tables, told, run}
 use Rattle.gup_spec_events.specs.Invariant.{AllCan}
 use Rattle.gup_spec_events.proofs.Runs.{run_behind, can_behind}
 use Rattle.gup_law_base.specs.Sound.{IsSoundBy, IsSound}
@@ -131,7 +132,7 @@ module _ (s : CoreState) (who : Doer) (place : Place) (op : Op) (growth : List C
   same_end : IsButForTables later last
   same_end = at_last s who.actor grown.proc shrunk.proc growth turn shrinks grown.are shrunk.are
 
-  module _ (can_grow : AllCan s growth) (can_shrink : AllCan later shrinks) (h : IsTaken middle who place (Some op) None turn) where
+  module _ (can_grow : AllCan s growth) (can_shrink : AllCan later shrinks) (stays : IsCopying later who.actor → shrinks ≡ []) (h : IsTaken middle who place (Some op) None turn) where
     same_first : place_in middle who.actor ≡ place_in s who.actor
     same_first = ap (λ (x : CoreState). place_in x who.actor) same_middle
 
@@ -159,6 +160,12 @@ module _ (s : CoreState) (who : Doer) (place : Place) (op : Op) (growth : List C
       pin = λ o is none birth.
           made_behind s later last who.actor o same_end
           (made_before s middle later who.actor o same_middle (h.pin o is none (ap (λ (x : CoreState). birth_for x.birth who) same_middle ∙ birth)));
+      copies = λ b c page word to done job has.
+          let own : later.job who.actor ≡ forking b c done (copying page word) = sym (ap (λ (x : CoreState). x.job who.actor) same_end) ∙ job in
+          let kept : shrinks ≡ [] = stays (subst IsCopyJob (sym own) tt) in
+          ap (λ (x : CoreState). has_tables x c page) (ran s who.actor grown.proc shrunk.proc growth turn shrinks grown.are shrunk.are)
+          ∙ ap (λ (es : List CoreEvent). has_tables (run later es) c page) kept
+          ∙ h.copies b c page word to done own (sym (ap (λ (x : CoreState). x.prepared who.actor) same_end) ∙ has);
       emptied = λ child page is lost.
           ap (λ (x : CoreState). x.entry child page) same_end ∙ h.emptied child page is (sym (ap (λ (x : CoreState). x.birth child) same_end) ∙ lost);
     }

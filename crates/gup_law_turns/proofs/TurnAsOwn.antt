@@ -62,6 +62,7 @@ unfailed_of_tables a (e ∷ es) birth are = are
 pub record AsOwn (s : CoreState) (who : Doer) (far : ℕ) (op : Op) : Type 0 where
   -- the state in which the operation's own turn is taken
   pub state : CoreState
+  pub grown : state ≡ run s (grows_for s who far op)
   pub before : IsButForTables s state
   pub whats : (turn_of s who far op).whats ≡ (own_turn state who far op).whats
   pub after : IsButForTables (run state (own_turn state who far op).events) (run s (turn_of s who far op).events)
@@ -79,6 +80,7 @@ as_own s who far op =
     let shrunk : OfTables a shrinks = unfailed_of_tables a (shrinks_by t u a who.proc far op) (birth_for t.birth who) (shrunk_of_tables t u a who.proc far op) in
     record {
       state = t;
+      grown = refl;
       before = at_first s a grown.proc shrunk.proc growth turn shrinks grown.are shrunk.are;
       whats = refl;
       after = at_last s a grown.proc shrunk.proc growth turn shrinks grown.are shrunk.are;

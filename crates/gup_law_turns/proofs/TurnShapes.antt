@@ -239,11 +239,12 @@ pub data TurnOf (s : PlainState) (references : References) (who : Doer) (place :
   placed_frame : (proc page : ℕ) (zone : Zone) (e : Entry) → 0 < place.far → op_denial s references who (pages_got s who.actor) (Move proc page zone) ≡ None → TurnOf s references who place (Move proc page zone) (moving_page page e one) (Done answers.Plain ∷ []) unbegun
   found_no_frame : (proc page : ℕ) (zone : Zone) (e : Entry) → 0 < place.far → op_denial s references who (pages_got s who.actor) (Move proc page zone) ≡ None → TurnOf s references who place (Move proc page zone) (moving_page page e one) (Done answers.NoFrame ∷ []) unbegun
   found_busy : (proc page : ℕ) (zone : Zone) (e : Entry) (count : ℕ) → 0 < place.far → op_denial s references who (pages_got s who.actor) (Move proc page zone) ≡ None → TurnOf s references who place (Move proc page zone) (moving_page page e (more count)) (Done (answers.Busy count) ∷ []) unbegun
-  -- a fork: its beginning, a page that is passed, one that is counted and then shared, its end
+  -- a fork: its beginning, a page that is passed, one that is counted and then shared, or for which a table is lacking, its end
   began : (child : ℕ) → AtFirst place → TurnOf s references who place (Fork child) unbegun (Event (events.ForkBegin who.proc child) ∷ []) (from_page 0)
   passed_page : (child from page : ℕ) → IsBegun place → from ≤ page → TurnOf s references who place (Fork child) (from_page from) (Event (events.ForkPage who.proc child page) ∷ []) (from_page (page + 1))
   counted_page : (child from page : ℕ) → IsBegun place → from ≤ page → TurnOf s references who place (Fork child) (from_page from) (Silent ∷ []) (at_page page)
   shared_page : (child page : ℕ) → IsBegun place → TurnOf s references who place (Fork child) (at_page page) (Event (events.ForkPage who.proc child page) ∷ []) (from_page (page + 1))
+  failed_share : (child page : ℕ) → IsBegun place → TurnOf s references who place (Fork child) (at_page page) (Event (events.ForkFail child) ∷ Done answers.NoFrame ∷ []) unbegun
   ended : (child from : ℕ) → IsBegun place → TurnOf s references who place (Fork child) (from_page from) (Event (events.ForkEnd who.proc child) ∷ Done answers.Plain ∷ []) unbegun
   -- a page that it counts and then copies: it takes a frame, copies word by word, and places the copy; or it finds no frame
   counted_copy : (child from page : ℕ) → IsBegun place → from ≤ page → TurnOf s references who place (Fork child) (from_page from) (Silent ∷ []) (wants_frame page)

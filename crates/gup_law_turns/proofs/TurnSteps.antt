@@ -1,5 +1,7 @@
 -- A run's turns: each can be done and has one of the shapes.
 use Rattle.std.proofs.Common.{◌≡◌, ℕ, ◌+◌, length, ◌≤◌, ◌<◌, Bool, true, false, IsTrue, List, [], ◌∷◌, Option, Some, None, refl, ap, sym, subst, ◌∙◌, zero, suc, arith}
+use Rattle.gup_law_turns.specs.Standing.{CopyStands}
+use Rattle.gup_law_turns.proofs.CopiedPages.{no_copy, not_copying, IsNoFork, other_op, next_copies_none, none_goes, copy_grown}
 use Rattle.gup_plain.specs.State.{Birth, Noted, unborn, born, failed}
 use Rattle.gup_plain.specs.declared.answer.Answer.TheVariants as answers
 use Rattle.gup_plain.specs.declared.event.PlainEvent.TheVariants as events
@@ -16,7 +18,7 @@ use Rattle.gup_script.specs.declared.op.Kind.TheVariants.{Thread, Device, Mover}
 use Rattle.gup_script.specs.declared.op.Op.{Op}
 use Rattle.gup_script.specs.declared.op.Op.TheVariants.{Map, Unmap, Protect, Discard, Load, Store, Pin, Unpin, Give, Take, Get, Put, Transfer, Mirror, Look, Fork, Exit, Move}
 use Rattle.gup_spec_events.specs.State.{CoreState, Job, idle, forking, plain_of, moving, unread, one, more, walking}
-use Rattle.gup_spec_events.specs.Event.{CoreEvent, run}
+use Rattle.gup_spec_events.specs.Event.{CoreEvent, happens, fail_unborn, run}
 use Rattle.gup_spec_events.specs.Invariant.{AllCan}
 use Rattle.gup_spec_journal.specs.Follows.{refuses}
 use Rattle.gup_spec_journal.specs.Order.{handle_waits}
@@ -43,7 +45,7 @@ use Rattle.gup_law_turns.proofs.TableLists.{tables_only}
 use Rattle.gup_law_turns.proofs.TabledTurns.{Shaped, at_first as same_first, at_last as same_last, left_alike, sound_tabled, tabled_taken, tabled_slots}
 use Rattle.gup_law_turns.proofs.CalmStates.{failing_unborn}
 use Rattle.gup_law_turns.proofs.ForkFails.{unborn_empty}
-use Rattle.gup_law_turns.proofs.ForkOps.{IsEmptied, fork_turned, fork_emptied}
+use Rattle.gup_law_turns.proofs.ForkOps.{IsEmptied, fork_turned, fork_emptied, fork_copied}
 use Rattle.gup_law_turns.proofs.EmptiedSlots.{none_emptying}
 use Rattle.gup_law_turns.proofs.MirrorOps.{mirror_turned, mirror_none, mirror_slots, look_turned, look_none, look_slots}
 use Rattle.gup_law_turns.proofs.MoveOps.{move_turned}
@@ -56,7 +58,7 @@ use Rattle.gup_law_turns.proofs.ReferenceOps.{get_turned, put_turned}
 use Rattle.gup_law_turns.proofs.ScriptLemmas.{FitsIn, op_is_op, op_fits_kind, thread_birth, few_slots, has_own_process, IsOfNoDevice}
 use Rattle.gup_law_turns.proofs.TurnShapes.{references_of, AtRest, AtFirst, FitsFork, FitsOp, FitsAt, Rests, IsOfProcess, TurnAt, idles, waits, goes, unborn_refused, unborn_fork, FitsMove, has_begun, child_of}
 use Rattle.gup_law_turns.proofs.StandingStates.{IsFew, Stands, IsTaken}
-use Rattle.gup_law_turns.proofs.ShownTurns.{IsOpen, IsQuiet, MakesPin, IsTurned, idle_place}
+use Rattle.gup_law_turns.proofs.ShownTurns.{IsOpen, IsQuiet, FitsNext, MakesPin, IsTurned, idle_place}
 
 -- whoever waits for neither of two doesn't wait for the first
 first_of_both : (first second : Option Waiting) → first_waiting first second ≡ None → first ≡ None
@@ -129,7 +131,7 @@ record CanTake (s : CoreState) (who : Doer) (place : Place) (op : Op) : Type 0 w
 
 module _ (s : CoreState) (who : Doer) (place : Place) (quiet : IsQuiet s who.actor) where
   opened : s.birth who.proc ≡ born → IsOpen s who.actor who.proc
-  opened birth = record { sound = quiet.sound; calm = quiet.calm; there = quiet.there; rest = quiet.rest; flat = quiet.flat; birth = birth }
+  opened birth = record { sound = quiet.sound; calm = quiet.calm; there = quiet.there; rest = quiet.rest; copies = quiet.copies; birth = birth }
 
   -- the turn of any operation but a mirror and a look
   op_turned : (op : Op) → CanTake s who place op → IsTurned s who place op (op_turn s who.actor who.proc who.slots place.far op)
@@ -198,6 +200,7 @@ module _ (s : CoreState) (who : Doer) (place : Place) (sound : IsSound s) (rest 
         shape = subst (λ (at : JobPlace). TurnAt (plain_of s) (references_of s) who place (Some op) None at (Done answers.Unborn ∷ []) at) (sym (idle_place s who.actor still.0)) (unborn_refused op lost first refusal);
         next = still;
         pin = λ o same free birth. absurd (not_failed birth lost);
+        copies = no_copy s who.actor idle still.0 (λ copies. copies);
         emptied = λ child page same gone. absurd (no_fork child same);
       }
 
@@ -216,6 +219,7 @@ module _ (s : CoreState) (who : Doer) (place : Place) (sound : IsSound s) (rest 
         shape = subst (λ (at : JobPlace). TurnAt (plain_of s) (references_of s) who place (Some (Fork child)) None at (Event (events.ForkFail child) ∷ Done answers.Unborn ∷ []) at) (sym (idle_place s who.actor still.0)) (unborn_fork child lost proc first);
         next = (still.0, fits.0);
         pin = λ o same free birth. absurd (not_failed birth lost);
+        copies = no_copy (happens s (fail_unborn who.actor who.proc child)) who.actor idle still.0 (λ copies. copies);
         emptied = λ c page same gone. ap (λ (k : ℕ). s.entry k page) (same_child same) ∙ unborn_empty s child page sound still.1;
       }
 
@@ -239,13 +243,14 @@ record IsKnown (s : CoreState) (who : Doer) (place : Place) (op : Option Op) : T
   emptied : (p page : ℕ) → s.birth p ≡ failed → s.entry p page ≡ None
 
 -- what is shown of the turn of a born process, or of a device, is what is shown of any turn
-as_taken : (s : CoreState) (who : Doer) (place : Place) (op : Op) (turn : CoreTurn) → birth_for s.birth who ≡ born → (IsOfProcess op → s.birth who.proc ≡ born) → IsTurned s who place op turn → ((child page : ℕ) → op ≡ Fork child → (run s turn.events).birth child ≡ failed → (run s turn.events).entry child page ≡ None) → IsTaken s who place (Some op) None turn
-as_taken s who place op turn birth own_birth at emptied =
+as_taken : (s : CoreState) (who : Doer) (place : Place) (op : Op) (turn : CoreTurn) → birth_for s.birth who ≡ born → (IsOfProcess op → s.birth who.proc ≡ born) → IsTurned s who place op turn → CopyStands (run s turn.events) who.actor → ((child page : ℕ) → op ≡ Fork child → (run s turn.events).birth child ≡ failed → (run s turn.events).entry child page ≡ None) → IsTaken s who place (Some op) None turn
+as_taken s who place op turn birth own_birth at copies emptied =
     record {
       done = at.done;
       shape = goes op turn.whats (place_in s who.actor) (place_in (run s turn.events) who.actor) birth own_birth at.shape;
       next = at.next;
       pin = λ o same none lives. subst (MakesPin s (run s turn.events) who.actor) (some_same same) at.pin;
+      copies = copies;
       emptied = λ child page same. emptied child page (some_same same);
     }
 
@@ -273,8 +278,17 @@ module _ (s : CoreState) (who : Doer) (place : Place) (quiet : IsQuiet s who.act
       let own : IsOfProcess op → s.birth who.proc ≡ born = own_birth s who place op h birth in
       let turn : CoreTurn = op_turn s who.actor who.proc who.slots place.far op in
       let at : IsTurned s who place op turn = op_turned s who place quiet op (record { range = h.range op refl; apart = apart; birth = own; slots = h.slots; ungot = h.ungot op refl; fits = h.fits; fresh = h.fresh; free = free }) in
-      as_taken s who place op turn birth own at (λ child page same. by_fork child same page own)
+      as_taken s who place op turn birth own at (copied op refl own at.next) (λ child page same. by_fork child same page own)
     where
+      copied : (o : Op) → op ≡ o → (IsOfProcess op → s.birth who.proc ≡ born) → FitsNext (run s (op_turn s who.actor who.proc who.slots place.far op).events) who (Some op) place (op_turn s who.actor who.proc who.slots place.far op).whats → CopyStands (run s (op_turn s who.actor who.proc who.slots place.far op).events) who.actor
+      copied (Fork child) is own next =
+          let fork_birth : s.birth who.proc ≡ born = own (subst IsOfProcess (sym is) tt) in
+          subst (λ (o : Op). CopyStands (run s (op_turn s who.actor who.proc who.slots place.far o).events) who.actor) (sym is)
+          (fork_copied s who child place (opened s who place quiet fork_birth) (subst (λ (o : Op). FitsOp s who o place) is h.fits))
+      copied o is own next =
+          let turn : CoreTurn = op_turn s who.actor who.proc who.slots place.far op in
+          not_copying (run s turn.events) who.actor (next_copies_none (run s turn.events) who op place turn.whats (subst IsNoFork (sym is) tt) next)
+
       by_fork : (child : ℕ) → op ≡ Fork child → (page : ℕ) → (IsOfProcess op → s.birth who.proc ≡ born) → (run s (op_turn s who.actor who.proc who.slots place.far op).events).birth child ≡ failed → (run s (op_turn s who.actor who.proc who.slots place.far op).events).entry child page ≡ None
       by_fork child is page own lost =
           let fork_birth : s.birth who.proc ≡ born = own (subst IsOfProcess (sym is) tt) in
@@ -294,7 +308,7 @@ record IsQuietly (s : CoreState) (a : ℕ) : Type 0 where
   there : AreCountedThere s
   rest : AtRest s a
   tables : TablesStand s
-  flat : s.needs_tables ≡ false
+  copies : CopyStands s a
 
 calmed_quiet : (s : CoreState) (a : ℕ) → IsQuietly s a → IsQuiet (calmed s) a
 calmed_quiet s a h =
@@ -303,7 +317,7 @@ calmed_quiet s a h =
       calm = calmed_calm s;
       there = h.there;
       rest = record { prepared = h.rest.prepared; owed = h.rest.owed };
-      flat = h.flat;
+      copies = h.copies;
     }
 
 calmed_known : (s : CoreState) (who : Doer) (place : Place) (op : Option Op) → IsKnown s who place op → IsKnown (calmed s) who place op
@@ -348,7 +362,9 @@ module _ (s : CoreState) (who : Doer) (place : Place) (op : Op) (quiet : IsQuiet
   slots_step : (birth : Birth) → birth_for s.birth who ≡ birth → waits_at birth who.proc (waits_born s who.actor who.proc place.far op) ≡ None → IsTaken s who place (Some op) None (emptying s who.actor (turn_at birth lost_turn born_turn))
   slots_step born is free =
       subst (IsTaken s who place (Some op) None) (sym born_same)
-      (as_taken s who place op born_turn is (own_birth s who place op h is) (takes.turned is free) (λ child page same. absurd (takes.no_fork child same)))
+      (as_taken s who place op born_turn is (own_birth s who place op h is) (takes.turned is free)
+      (not_copying (run s born_turn.events) who.actor (next_copies_none (run s born_turn.events) who op place born_turn.whats (other_op op takes.no_fork) (takes.turned is free).next))
+      (λ child page same. absurd (takes.no_fork child same)))
   slots_step failed is free = subst (IsTaken s who place (Some op) None) (sym lost_same) (lost_step s who place op h quiet.sound quiet.rest is)
   slots_step birth is free = absurd (cc free)
 
@@ -398,8 +414,8 @@ own_slots s who place op quiet h is =
 
 -- ---- with the page tables that it adds and takes out
 
-quiet_tabled : (s t : CoreState) (a : ℕ) → IsButForTables s t → TablesStand t → IsQuietly s a → IsQuietly t a
-quiet_tabled s t a same stand h =
+quiet_tabled : (s t : CoreState) (a : ℕ) → IsButForTables s t → TablesStand t → CopyStands t a → IsQuietly s a → IsQuietly t a
+quiet_tabled s t a same stand copies h =
     let x : CoreState = record s { free_table = t.free_table; place = t.place; retired = t.retired } in
     let rest : AtRest x a = record { prepared = h.rest.prepared; owed = h.rest.owed } in
     record {
@@ -408,7 +424,7 @@ quiet_tabled s t a same stand h =
       there = subst AreCountedThere (sym same) h.there;
       rest = subst (λ (y : CoreState). AtRest y a) (sym same) rest;
       tables = stand;
-      flat = subst (λ (y : CoreState). y.needs_tables ≡ false) (sym same) h.flat;
+      copies = copies;
     }
 
 known_tabled : (s t : CoreState) (who : Doer) (place : Place) (op : Option Op) → IsButForTables s t → IsKnown s who place op → IsKnown t who place op
@@ -435,6 +451,7 @@ module _ (s : CoreState) (who : Doer) (place : Place) (op : Op) (quiet : IsQuiet
   record IsBetween (growth : List CoreEvent) : Type 0 where
     grown : Shaped a p c growth
     can : AllCan s growth
+    copies : (b : ℕ) → CopyStands s b → CopyStands (run s growth) b
     shrunk : Shrunk (run (run s growth) (own_turn (run s growth) who place.far op).events) a p c (shrinks_for (run s growth) (run (run s growth) (own_turn (run s growth) who place.far op).events) who place.far op)
     taken : IsTaken (run s growth) who place (Some op) None (own_turn (run s growth) who place.far op)
     slots : EmptiesSlots (run s growth) (Some op) (own_turn (run s growth) who place.far op)
@@ -451,7 +468,8 @@ module _ (s : CoreState) (who : Doer) (place : Place) (op : Op) (quiet : IsQuiet
       let can = grown_can s a p c (grown_by s a p place.far op) quiet.sound quiet.tables may in
       let t : CoreState = run s growth_at in
       let same : IsButForTables s t = tables_only s a grown.proc growth_at grown.are in
-      let quiet_t = quiet_tabled s t a same (stand_run s growth_at quiet.tables can) quiet in
+      let grows = copy_grown s a (grown_by s a p place.far op) quiet.tables can in
+      let quiet_t = quiet_tabled s t a same (stand_run s growth_at quiet.tables can) (grows a quiet.copies) quiet in
       let known_t = known_tabled s t who place (Some op) same h in
       let birth_t : birth_for t.birth who ≡ born = ap (λ (y : CoreState). birth_for y.birth who) same ∙ birth in
       let free_t : waits_born t a p place.far op ≡ None = waits_tabled s t same a p place.far op ∙ free in
@@ -462,6 +480,7 @@ module _ (s : CoreState) (who : Doer) (place : Place) (op : Op) (quiet : IsQuiet
       record {
         grown = grown;
         can = can;
+        copies = grows;
         shrunk = unfailed_shrunk (run t (own_turn t who place.far op).events) a p c (shrinks_by t (run t (own_turn t who place.far op).events) a p place.far op) (birth_for t.birth who) shrunk_t;
         taken = own_taken t who place op quiet_t known_t waits_t;
         slots = own_slots t who place op quiet_t known_t waits_t;
@@ -472,6 +491,7 @@ module _ (s : CoreState) (who : Doer) (place : Place) (op : Op) (quiet : IsQuiet
   lost_between lost is = record {
     grown = unshaped a p c;
     can = tt;
+    copies = λ b copies. copies;
     shrunk = subst (Shrunk (run s (own_turn s who place.far op).events) a p c)
         (sym (ap (unless_failed (shrinks_by s (run s (own_turn s who place.far op).events) a p place.far op)) lost ∙ unless_lost (shrinks_by s (run s (own_turn s who place.far op).events) a p place.far op)))
         (none_shrunk (run s (own_turn s who place.far op).events) a p c);
@@ -493,7 +513,8 @@ op_taken s who place op quiet h is =
     let at = between s who place op quiet h is in
     let t : CoreState = run s growth in
     let turn : CoreTurn = own_turn t who place.far op in
-    tabled_taken s who place op growth turn (shrinks_for t (run t turn.events) who place.far op) at.grown at.shrunk.shaped at.can at.shrunk.can at.taken
+    tabled_taken s who place op growth turn (shrinks_for t (run t turn.events) who place.far op) at.grown at.shrunk.shaped at.can at.shrunk.can
+    (λ copies. ap (λ (es : List CoreEvent). unless_failed es (birth_for t.birth who)) (none_goes t (run t turn.events) who op place.far place turn.whats at.taken.next copies)) at.taken
 
 op_slots : (s : CoreState) (who : Doer) (place : Place) (op : Op) → IsQuietly s who.actor → IsKnown s who place (Some op) → waiting_with s who place.far (Some op) ≡ None → EmptiesSlots s (Some op) (core_turn_by s who place.far (Some op) None)
 op_slots s who place op quiet h is =
@@ -510,6 +531,7 @@ take s who place None waiting quiet h is =
       shape = idles waiting (place_in s who.actor);
       next = h.fits;
       pin = λ o none free birth. absurd (cc none);
+      copies = quiet.copies;
       emptied = λ child page none. absurd (cc none);
     }
 take s who place (Some op) (Some waiting) quiet h is =
@@ -518,6 +540,7 @@ take s who place (Some op) (Some waiting) quiet h is =
       shape = waits op waiting (place_in s who.actor);
       next = h.fits;
       pin = λ o same free birth. absurd (cc free);
+      copies = quiet.copies;
       emptied = λ child page same lost. h.emptied child page lost;
     }
 take s who place (Some op) None quiet h is = op_taken s who place op quiet h is
@@ -530,7 +553,7 @@ take_slots s who place (Some op) None quiet h is = op_slots s who place op quiet
 
 -- what is known of the turn of an actor
 is_quietly : (script : ScriptValue) (r : RunState) → Stands script r → (a : ℕ) → IsQuietly r.core a
-is_quietly script r h a = record { sound = h.sound; slots = h.slots; there = h.there; rest = h.rest a; tables = h.tables; flat = h.flat }
+is_quietly script r h a = record { sound = h.sound; slots = h.slots; there = h.there; rest = h.rest a; tables = h.tables; copies = h.copies a }
 
 is_known : (script : ScriptValue) → IsScript script → (r : RunState) → Stands script r → (a : ℕ) → IsKnown r.core (doer_of script a (op_in script r a)) (r.places a) (op_in script r a)
 is_known script valid r h a =
@@ -579,6 +602,7 @@ own_taken_in script valid r h a =
 pub record IsMiddle (s t : CoreState) (who : Doer) (far : ℕ) (op : Option Op) (waiting : Option Waiting) : Type 0 where
   pub before : IsButForTables s t
   pub stand : TablesStand t
+  pub copies : (b : ℕ) → CopyStands s b → CopyStands t b
   pub whats : (core_turn_by s who far op waiting).whats ≡ (own_by t who far op waiting).whats
   pub after : IsButForTables (run t (own_by t who far op waiting).events) (run s (core_turn_by s who far op waiting).events)
   pub left : (frame : Option ℕ) (noted : Option Noted) → left_in (core_turn_by s who far op waiting).events frame noted ≡ left_in (own_by t who far op waiting).events frame noted
@@ -594,6 +618,7 @@ same_middle s who far op waiting stand same =
       is = record {
         before = refl;
         stand = stand;
+        copies = λ b copies. copies;
         whats = ap (λ (turn : CoreTurn). turn.whats) same;
         after = subst (λ (turn : CoreTurn). IsButForTables (run s turn.events) (run s (core_turn_by s who far op waiting).events)) same refl;
         left = λ frame noted. ap (λ (turn : CoreTurn). left_in turn.events frame noted) same;
@@ -614,6 +639,7 @@ middle_by s who place (Some op) None quiet h is =
       is = record {
         before = same_first s who.actor at.grown.proc at.shrunk.shaped.proc growth turn shrinks at.grown.are at.shrunk.shaped.are;
         stand = stand_run s growth quiet.tables at.can;
+        copies = at.copies;
         whats = refl;
         after = same_last s who.actor at.grown.proc at.shrunk.shaped.proc growth turn shrinks at.grown.are at.shrunk.shaped.are;
         left = left_alike s who.actor at.grown.proc at.shrunk.shaped.proc growth turn shrinks at.grown.are at.shrunk.shaped.are;
@@ -630,8 +656,8 @@ pub same_waiting : (script : ScriptValue) (r : RunState) (t : CoreState) (a : �
 same_waiting script r t a same = ap (λ (x : CoreState). waiting_in script (record r { core = x }) a) same
 
 -- and what stands between two turns stands
-pub stands_tabled : (script : ScriptValue) (r : RunState) (t : CoreState) → IsButForTables r.core t → TablesStand t → Stands script r → Stands script (record r { core = t })
-stands_tabled script r t same stand h =
+pub stands_tabled : (script : ScriptValue) (r : RunState) (t : CoreState) → IsButForTables r.core t → TablesStand t → ((a : ℕ) → CopyStands t a) → Stands script r → Stands script (record r { core = t })
+stands_tabled script r t same stand copies h =
     let s : CoreState = r.core in
     let x : CoreState = record s { free_table = t.free_table; place = t.place; retired = t.retired } in
     let q : RunState = record r { core = x } in
@@ -639,6 +665,7 @@ stands_tabled script r t same stand h =
     let sound_by : IsSoundBy v x = (let all = h.sound.1 in assumption) in
     let sound : IsSound x = (v, sound_by) in
     let tables : TablesStand x = stand in
+    let copied : (a : ℕ) → CopyStands x a = λ a. subst (λ (y : CoreState). CopyStands y a) same (copies a) in
     let rest : (a : ℕ) → AtRest x a = λ a. let at = h.rest a in record { prepared = at.prepared; owed = at.owed } in
     let few : IsFew (length script.processes) x = (let now = h.few in record { mapped = now.mapped; pages = now.pages; forked = now.forked }) in
     let fits : (a : ℕ) → FitsAt x (doer_of script a (op_in script r a)) (op_in script r a) (r.places a) =

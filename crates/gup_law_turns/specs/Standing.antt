@@ -1,5 +1,5 @@
 -- What is known of each state that turns lead to, whoever takes them.
-use Rattle.std.specs.Prelude.{◌≡◌, ℕ, ◌+◌, ◌*◌, ◌≤◌, ◌<◌, ◌==◌, Bool, true, false, if◌then◌else◌, List, [], length, slice_get, Option, Some, None, IsSome}
+use Rattle.std.specs.Prelude.{◌≡◌, ℕ, ◌+◌, ◌*◌, ◌≤◌, ◌<◌, ◌==◌, Bool, true, if◌then◌else◌, List, [], length, slice_get, Option, Some, None, IsSome}
 use Rattle.gup_base.specs.Parts.{Part, words_of}
 use Rattle.gup_base.specs.declared.entry.Entry.{Entry}
 use Rattle.gup_base.specs.declared.entry.Want.{Want}
@@ -11,8 +11,8 @@ use Rattle.gup_script.specs.declared.op.Op.TheVariants.{Unmap, Discard, Pin, Unp
 use Rattle.gup_script.specs.Limits.{most_pinned, most_handles}
 use Rattle.gup_script.specs.Script.{ScriptValue}
 use Rattle.gup_script.specs.Valid.{made_by}
-use Rattle.gup_spec_events.specs.State.{CoreState, Taken, WalkStep, idle, walking}
-use Rattle.gup_spec_events.specs.Event.{bias}
+use Rattle.gup_spec_events.specs.State.{CoreState, Taken, WalkStep, idle, forking, copying, walking}
+use Rattle.gup_spec_events.specs.Event.{bias, has_tables}
 use Rattle.gup_spec_events.specs.Invariant.{Holds, grabbed_frame}
 use Rattle.gup_law_base.specs.Sound.{IsSound}
 use Rattle.gup_law_tables.specs.Standing.{TablesStand}
@@ -43,8 +43,14 @@ back_in script r handle a = given_back (present_op script a (r.places a)) handle
 abbrev pub IsUnmade : CoreState → (handle : ℕ) → Type 0
 IsUnmade s handle = (s.handle handle ≡ unmade) × (s.got handle ≡ None)
 
+-- While an actor copies a page into a frame, the child of its fork lacks no table for the page.
+abbrev pub CopyStands : CoreState → (a : ℕ) → Type 0
+CopyStands s a =
+    (p c page word to : ℕ) (done : List ℕ) → s.job a ≡ forking p c done (copying page word) → s.prepared a ≡ Some to
+    → has_tables s c page ≡ true
+
 -- The core state is sound, and all that is published of core states holds of it; each page table is free or of one process, and
--- entries need none. Those that are not unborn are declared. Each
+-- a page that is copied has its tables. Those that are not unborn are declared. Each
 -- entry is of a mapped page, and its frame has a reference. No actor but one that forks, moves, walks or pins for long is in the
 -- middle of anything, and none at the first turn of its operation; none but one that pins has taken pages, and none but one that
 -- copies a page has prepared a frame. A pin has had no more turns than its walk and its pages take. An operation that goes over
@@ -57,7 +63,7 @@ pub record IsStanding (script : ScriptValue) (r : RunState) : Type 0 where
   pub sound : IsSound r.core
   pub holds : Holds r.core
   pub tables : TablesStand r.core
-  pub flat : r.core.needs_tables ≡ false
+  pub copies : (a : ℕ) → CopyStands r.core a
   pub declared : (p : ℕ) → (r.core.birth p ≡ unborn → ⊥) → p < length script.processes
   pub mapped : (p page : ℕ) (e : Entry) → r.core.entry p page ≡ Some e → IsSome (r.core.right p page)
   pub counted : (p page : ℕ) (e : Entry) → r.core.entry p page ≡ Some e → r.core.count e.frame ≡ 0 → ⊥

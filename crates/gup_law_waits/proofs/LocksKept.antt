@@ -2,7 +2,7 @@
 use Rattle.std.proofs.Common.{◌≡◌, ℕ, ◌+◌, ◌<◌, ◌⊎◌, inl, inr, Bool, true, false, nat_lt, List, [], ◌∷◌, length, ◌==◌, if◌then◌else◌, zero, suc, Option, Some, None, IsSome, refl, sym, ap, ◌∙◌, subst, arith}
 use Rattle.std.specs.Prelude.{◌&&◌, not}
 use Rattle.std.proofs.lemmas.Bool.Decides.{nat_tests}
-use Rattle.gup_base.specs.declared.entry.Allowed.TheVariants.{Only}
+use Rattle.gup_base.specs.declared.entry.Allowed.TheVariants.{Only, Any}
 use Rattle.gup_base.specs.declared.entry.Entry.{Entry}
 use Rattle.gup_base.specs.declared.entry.Rights.{Rights}
 use Rattle.gup_base.specs.declared.entry.Want.{Want}
@@ -18,10 +18,10 @@ use Rattle.gup_script.specs.Valid.{IsScript}
 use Rattle.gup_script.specs.declared.op.Op.{Op}
 use Rattle.gup_script.specs.declared.op.Op.TheVariants.{Pin, Move, Fork, Exit}
 use Rattle.gup_spec_events.specs.State.{CoreState, Job, idle, moving, Counted, unread, one as counted_one, more as counted_more, forking, between, counted, lowered, cleared, copying, walking}
-use Rattle.gup_spec_events.specs.Event.{CoreEvent, entry_of, take_frame, put_entry, place_frame, run}
+use Rattle.gup_spec_events.specs.Event.{CoreEvent, entry_of, take_frame, put_entry, place_frame, run, has_tables}
 use Rattle.gup_law_base.specs.Sound.{IsSound, Forking, forking_of, keeps_structure, keeps_table}
 use Rattle.gup_spec_journal.specs.Place.{Place, Doer, doer, doer_of, birth_by, birth_for, process_of}
-use Rattle.gup_spec_turns.specs.CoreTurn.{CoreTurn, answers_with, allows_store, frame_in, free_in, free_frame, zones_of}
+use Rattle.gup_spec_turns.specs.CoreTurn.{CoreTurn, answers_with, allows_store, frame_in, free_in, frame_for, zones_of}
 use Rattle.gup_spec_turns.specs.JobPlace.{job_place, place_in, unbegun, from_page}
 use Rattle.gup_spec_turns.specs.MoveTurns.{place_turn, counted_turn, move_turn}
 use Rattle.gup_spec_turns.specs.ForkTurns.{next_page, page_turn, next_turn, share_turn, frame_turn, copy_turn, copying_turn, fork_turn}
@@ -95,8 +95,9 @@ module _ (s : CoreState) (a p child : ℕ) (other : p ≡ child → ⊥) (locked
   left_next done None never = absurd (never refl)
   left_next done (Some page) never = left_page done page (s.entry p page) never
 
-  left_share : (done : List ℕ) (page : ℕ) → IsSome (s.entry p page) → Left (share_turn a p child done page (s.entry p page))
-  left_share done page there never =
+  left_share : (done : List ℕ) (page : ℕ) (may : Bool) → IsSome (s.entry p page) → Left (share_turn s a p child done page (s.entry p page) may)
+  left_share done page false there never = absurd (never refl)
+  left_share done page true there never =
       let f : ℕ = frame_in (s.entry p page) in
       record {
         locked = locked;
@@ -113,7 +114,7 @@ module _ (s : CoreState) (a p child : ℕ) (other : p ≡ child → ⊥) (locked
   left_copy done page word to false never = same_keeps s _ p a locked (other_entry s.entry p child page _ other)
 
   left_copying : (done : List ℕ) (page word : ℕ) (prepared : Option ℕ) → Left (copying_turn s a p child done page word prepared)
-  left_copying done page word None never = left_frame done page word (free_frame s) never
+  left_copying done page word None never = left_frame done page word (frame_for s child page Any) never
   left_copying done page word (Some to) never = left_copy done page word to (nat_lt word words) never
 
 -- the fork of a born process is into another one, of which it has the structure lock
@@ -125,7 +126,7 @@ fork_left s a p child place idle prepared fits far lives never = absurd (let fir
 fork_left s a p child place (forking q c done between) prepared fits far lives never =
     left_next s a p child (grown_apart s p child lives fits.1.birth) fits.1.locked done (next_page (s.right child) done) never
 fork_left s a p child place (forking q c done (counted page)) prepared fits far lives never =
-    left_share s a p child (grown_apart s p child lives fits.1.0.birth) fits.1.0.locked done page fits.1.1.entry never
+    left_share s a p child (grown_apart s p child lives fits.1.0.birth) fits.1.0.locked done page (has_tables s child page) fits.1.1.entry never
 fork_left s a p child place (forking q c done (copying page word)) prepared fits far lives never =
     left_copying s a p child (grown_apart s p child lives fits.1.0.birth) fits.1.0.locked done page word (s.prepared a) never
 fork_left s a p child place (forking q c done step) prepared fits far lives never = absurd fits.1
@@ -464,8 +465,11 @@ module _ (law : Law) (script : ScriptValue) (valid : IsScript script) (r : RunSt
     from_there child page u there still = still (ap (wakes (Some (Fork child))) there)
 
     fork_pages : (child k : ℕ) (job : Job) → keeps_table job ≡ Some q → FitsFork s a k child place job (s.prepared a) → s.job a ≡ job → Stays (Fork child) q (fork_turn s a k child job)
-    fork_pages child k (forking u v done (counted page)) keeps fits is over still =
-        absurd (from_there child (page + 1) (fork_turn s a k child (forking u v done (counted page))) (ap (λ (j : Job). job_place j (s.prepared a)) (put_same a (forking k child (page ∷ done) between) (put a (forking k child done (cleared page)) (put a (forking k child done (lowered page)) s.job)))) still)
+    fork_pages child k (forking u v done (counted page)) keeps fits is over still = share (has_tables s child page) over still
+      where
+        share : (may : Bool) → Stays (Fork child) q (share_turn s a k child done page (s.entry k page) may)
+        share false over still = absurd (over refl)
+        share true over still = absurd (from_there child (page + 1) (share_turn s a k child done page (s.entry k page) true) (ap (λ (j : Job). job_place j (s.prepared a)) (put_same a (forking k child (page ∷ done) between) (put a (forking k child done (cleared page)) (put a (forking k child done (lowered page)) s.job)))) still)
     fork_pages child k (forking u v done (copying page word)) keeps fits is over still = go (s.prepared a) over still
       where
         frame : (free : Option ℕ) → Stays (Fork child) q (frame_turn s a k child done page word free)
@@ -477,7 +481,7 @@ module _ (law : Law) (script : ScriptValue) (valid : IsScript script) (r : RunSt
         copy to false over still = absurd (from_there child (page + 1) (copy_turn s a k child done page word to false) (ap (λ (j : Job). job_place j ((run s (copy_turn s a k child done page word to false).events).prepared a)) (put_same a (forking k child (page ∷ done) between) s.job)) still)
 
         go : (prepared : Option ℕ) → Stays (Fork child) q (copying_turn s a k child done page word prepared)
-        go None over still = frame (free_frame s) over still
+        go None over still = frame (frame_for s child page Any) over still
         go (Some to) over still = copy to (nat_lt word words) over still
     fork_pages child k idle keeps fits is over still = absurd (cc keeps)
     fork_pages child k (forking u v done between) keeps fits is over still = absurd (cc keeps)
@@ -580,7 +584,7 @@ module _ (law : Law) (script : ScriptValue) (valid : IsScript script) (r : RunSt
   with_tables = record r { core = state }
 
   stands : Stands script with_tables
-  stands = stands_tabled script r state middle.is.before middle.is.stand h
+  stands = stands_tabled script r state middle.is.before middle.is.stand (λ b. middle.is.copies b (h.copies b)) h
 
   abbrev own_end : CoreState
   own_end = run state (own_in script with_tables a).events

@@ -12,7 +12,7 @@ use Rattle.gup_spec_journal.specs.Order.{is_given_to, plain_behind}
 use Rattle.gup_spec_journal.specs.Place.{Place, Doer}
 use Rattle.gup_spec_turns.specs.JobPlace.{JobPlace, unbegun}
 use Rattle.gup_law_turns.proofs.KeptParts.{apart}
-use Rattle.gup_law_turns.proofs.TurnShapes.{unmaps, discards, TurnOf, gave, took_over, took, took_last, cleared_page, counted_cleared, pinned_all, pinned_short, unpinned_last, moved_word, moved_last, cleared_entry, counted_frame, began, passed_page, counted_page, shared_page, ended, counted_copy, took_frame, copied_word, placed_copy, failed_fork, WalksTo, found_fork, began_walk, walked, kept_all, TurnAt, idles, waits, goes, unborn_refused, unborn_fork}
+use Rattle.gup_law_turns.proofs.TurnShapes.{unmaps, discards, TurnOf, gave, took_over, took, took_last, cleared_page, counted_cleared, pinned_all, pinned_short, unpinned_last, moved_word, moved_last, cleared_entry, counted_frame, began, passed_page, counted_page, shared_page, ended, counted_copy, took_frame, copied_word, placed_copy, failed_fork, WalksTo, found_fork, began_walk, walked, kept_all, TurnAt, idles, waits, goes, unborn_refused, unborn_fork, failed_share}
 use Rattle.gup_law_waits.specs.Woken.{one, everybody, wakes}
 
 -- walks
@@ -51,6 +51,7 @@ op_coming q (moved_last handle true slot parts value more undenied) never coming
 op_coming q (moved_last handle false slot parts value more undenied) never coming = coming
 op_coming q {s = s} {who = who} (began child first) never coming = still_coming (q == child) who.proc s q coming
 op_coming q (ended child from begun) never coming = absurd (never refl)
+op_coming q (failed_share child page begun) never coming = absurd (never refl)
 op_coming q (failed_fork child page begun) never coming = absurd (never refl)
 op_coming q (walked handle page n want sequence step whats to turn less free) never coming =
     subst (λ (f : ℕ → Birth). IsUnbornOrGrowing (f q)) (sym (walk_untold turn).birth) coming

@@ -47,17 +47,17 @@ leave_other p q space s (e ∷ es) other own h =
 
 shows_frames : (p : ℕ) (frames : FramesValue) (s : CoreState) {e : CoreEvent} → IsMoveEvent p e → ShowsFrames frames s → ShowsFrames (frames_behind e frames) (happens s e)
 shows_frames p frames s (clearing a page e allowed) h =
-    record { movable = h.movable; normal = h.normal; count = h.count; mark = h.mark; word = h.word }
+    record { movable = h.movable; normal = h.normal; count = h.count; mark = h.mark; word = h.word; needs_tables = h.needs_tables }
 shows_frames p frames s (counting a page e allowed count) h =
-    record { movable = h.movable; normal = h.normal; count = h.count; mark = h.mark; word = h.word }
+    record { movable = h.movable; normal = h.normal; count = h.count; mark = h.mark; word = h.word; needs_tables = h.needs_tables }
 shows_frames p frames s (taking a f) h =
-    record { movable = h.movable; normal = h.normal; count = λ g. grind (arith, nat_tests, h.count g); mark = λ g. grind (arith, nat_tests, h.mark g); word = λ g w. grind (arith, nat_tests, h.word g w) }
+    record { movable = h.movable; normal = h.normal; count = λ g. grind (arith, nat_tests, h.count g); mark = λ g. grind (arith, nat_tests, h.mark g); word = λ g w. grind (arith, nat_tests, h.word g w); needs_tables = h.needs_tables }
 shows_frames p frames s (placing a page f e allowed) h =
-    record { movable = h.movable; normal = h.normal; count = h.count; mark = λ g. grind (arith, nat_tests, h.mark g, h.mark e.frame); word = λ g w. grind (arith, nat_tests, h.word g w, h.word e.frame w) }
+    record { movable = h.movable; normal = h.normal; count = h.count; mark = λ g. grind (arith, nat_tests, h.mark g, h.mark e.frame); word = λ g w. grind (arith, nat_tests, h.word g w, h.word e.frame w); needs_tables = h.needs_tables }
 shows_frames p frames s (putting a f) h =
-    record { movable = h.movable; normal = h.normal; count = λ g. grind (arith, nat_tests, h.count g, h.count f); mark = λ g. grind (arith, nat_tests, h.mark g, h.mark f, h.count f); word = h.word }
+    record { movable = h.movable; normal = h.normal; count = λ g. grind (arith, nat_tests, h.count g, h.count f); mark = λ g. grind (arith, nat_tests, h.mark g, h.mark f, h.count f); word = h.word; needs_tables = h.needs_tables }
 shows_frames p frames s (restoring a page e allowed count) h =
-    record { movable = h.movable; normal = h.normal; count = h.count; mark = h.mark; word = h.word }
+    record { movable = h.movable; normal = h.normal; count = h.count; mark = h.mark; word = h.word; needs_tables = h.needs_tables }
 
 shows_space : (p : ℕ) (space : SpaceValue) (s : CoreState) {e : CoreEvent} → IsMoveEvent p e → ShowsSpace p space s → ShowsSpace p (space_behind e space) (happens s e)
 shows_space p space s (clearing a page e allowed) h =

@@ -1,5 +1,5 @@
 -- Turns and notes in other words, and states of frames and a process.
-use Rattle.std.proofs.Common.{◌≡◌, ℕ, true, false, List, [], ◌∷◌, ◌++◌, Result, Ok, Err, is_err, OnOk, OnErr, refl, sym, subst}
+use Rattle.std.proofs.Common.{◌≡◌, ℕ, true, false, List, Result, Ok, Err, is_err, OnOk, OnErr, refl, sym, subst}
 use Rattle.gup_plain.specs.declared.note.What.{What}
 use Rattle.gup_frames.specs.Frames.{FramesValue}
 use Rattle.gup_space.specs.Space.{SpaceValue}
@@ -39,7 +39,7 @@ state_of F S =
     }
 
 pub has_frames : (F : FramesValue) (S : SpaceValue) → ShowsFrames F (state_of F S)
-has_frames F S = record { movable = refl; normal = refl; count = λ f. refl; mark = λ f. refl; word = λ f w. refl }
+has_frames F S = record { movable = refl; normal = refl; count = λ f. refl; mark = λ f. refl; word = λ f w. refl; needs_tables = refl }
 
 pub has_space : (F : FramesValue) (S : SpaceValue) (p : ℕ) → ShowsSpace p S (state_of F S)
 has_space F S p =

@@ -25,7 +25,7 @@ use Rattle.gup_spec_turns.specs.ForkTurns.{fork_turn, frame_turn, copy_turn, cop
 use Rattle.gup_spec_turns.specs.CoreTurn.{entry_in}
 use Rattle.gup_spec_turns.specs.JobPlace.{unbegun, from_page, wants_frame, at_word, copying_place, job_place, StandsFork}
 use Rattle.gup_op_base.proofs.Leading.{leads_alike}
-use Rattle.gup_op_base.proofs.Searching.{free_agrees}
+use Rattle.gup_op_base.proofs.Searching.{frame_agrees}
 use Rattle.gup_op_fork.proofs.Forking.{IsForking, change, leads_there, put_here, notes_alike}
 use Rattle.gup_spec_events.proofs.Runs.{run_behind}
 
@@ -103,7 +103,7 @@ frame_taken F F' P C a p c page to free is birth s shown fork =
     let behind : CoreState = happens s (take_frame a to) in
     leads_alike {turn = record { events = take_frame a to ∷ []; whats = Silent ∷ [] }}
     (copies_on s a p c page 0 (s.job a) None both.0 here
-    ∙ ap (λ o. frame_turn s a p c here.done page 0 o) (free_agrees F Any s shown.frames ∙ free))
+    ∙ ap (λ o. frame_turn s a p c here.done page 0 o) (frame_agrees F c page Any s shown.frames ∙ free))
     (record {
       says = refl;
       shown = record {
@@ -250,7 +250,7 @@ fork_failed k a p c page none made birth s shown fork =
     let behind = made here.done s p c fork.apart shown.frames shown.parent shown.child in
     leads_alike {turn = record { events = fails a p c here.done (copying page 0) entry; whats = Event (events.ForkFail c) ∷ Done answers.NoFrame ∷ [] }}
     (copies_on s a p c page 0 (s.job a) None both.0 here
-    ∙ ap (λ o. frame_turn s a p c here.done page 0 o) (free_agrees k.old_frames Any s shown.frames ∙ none)
+    ∙ ap (λ o. frame_turn s a p c here.done page 0 o) (frame_agrees k.old_frames c page Any s shown.frames ∙ none)
     ∙ ap (λ es. record { events = es; whats = Event (events.ForkFail c) ∷ Done answers.NoFrame ∷ [] }) (fails_alike a p c here.done (copying page 0) (s.entry c) entry shown.child.entry))
     (leads_there k refl behind
     (failed_place a p c here.done (copying page 0) entry s)

@@ -19,7 +19,7 @@ use Rattle.gup_fork.specs.Forks.{ForkChange, AreForkEvents, copies_frame, shares
 use Rattle.gup_fork.proofs.ForkAfter.{counting, passing}
 use Rattle.gup_fork.proofs.ForkLemmas.{are_fork_events}
 use Rattle.gup_spec_events.specs.State.{CoreState, Job, idle, marking, moving, forking, walking, between, counted, lowered, cleared, copying, failing}
-use Rattle.gup_spec_events.specs.Event.{CoreEvent, bias, begin_fork, count_page, pass_page, end_fork, copies_page, run}
+use Rattle.gup_spec_events.specs.Event.{CoreEvent, bias, begin_fork, count_page, pass_page, end_fork, copies_page, run, has_tables}
 use Rattle.gup_spec_turns.specs.CoreTurn.{CoreTurn}
 use Rattle.gup_spec_turns.specs.ForkTurns.{first_behind, next_page, next_turn, page_turn, share_turn, fork_turn}
 use Rattle.gup_spec_turns.specs.JobPlace.{JobPlace, copying_place, job_place, place_in, KeepsFrame, StandsFork, unbegun, from_page, at_page, wants_frame, at_word}
@@ -30,7 +30,7 @@ use Rattle.gup_op_fork.specs.Forked.{ForkingView, ShowsForking, StandsAsFork, Is
 use Rattle.gup_op_base.specs.Turns.{Leads, IsTurnOf}
 use Rattle.gup_op_base.proofs.Leading.{leads_alike}
 use Rattle.gup_maps.specs.Maps.{IsNextPage, IsLastPage}
-use Rattle.gup_op_base.proofs.Searching.{lowest_same}
+use Rattle.gup_op_base.proofs.Searching.{lowest_same, tables_agree}
 use Rattle.gup_op_fork.proofs.Searching.{found_at, none_found, unmapped_is, below_numbers}
 
 abbrev pub change : (F F' : FramesValue) (P P' C C' : SpaceValue) → ForkChange
@@ -226,8 +226,9 @@ page_shared k a p c page e entry made birth s shown fork = go (s.job a) fork.at 
     go (forking q d done (counted g)) stands place =
         let behind = made done s p c fork.apart shown.frames shown.parent shown.child in
         leads_alike
-        (ap (λ h. share_turn a p c done h (s.entry p h)) (same_page g page place)
-        ∙ ap (λ o. share_turn a p c done page o) (shown.parent.entry page ∙ entry))
+        (ap (λ h. share_turn s a p c done h (s.entry p h) (has_tables s c h)) (same_page g page place)
+        ∙ ap (λ o. share_turn s a p c done page o (has_tables s c page)) (shown.parent.entry page ∙ entry)
+        ∙ ap (share_turn s a p c done page (Some e)) (tables_agree k.old_frames c page s shown.frames))
         (leads_there k refl behind
         (ap (λ j. job_place j (s.prepared a)) (put_here a (forking p c (page ∷ done) between) (put a (forking p c done (cleared page)) (put a (forking p c done (lowered page)) s.job))))
         stands.0.birth)

@@ -5,14 +5,13 @@ use Rattle.gup_base.specs.Parts.{words_of, word_at}
 use Rattle.gup_base.specs.declared.entry.Entry.{Entry}
 use Rattle.gup_plain.specs.Denial.{is_held_by, transfer_denial}
 use Rattle.gup_plain.specs.Put.{within}
-use Rattle.gup_plain.specs.State.{Noted}
 use Rattle.gup_script.specs.declared.op.Op.{Op}
 use Rattle.gup_script.specs.declared.op.Op.TheVariants.{Unpin, Give, Take, Transfer, Look}
 use Rattle.gup_spec_events.specs.State.{CoreState, Taken}
 use Rattle.gup_spec_events.specs.Event.{CoreEvent, taken_frames}
 use Rattle.gup_spec_events.specs.Invariant.{frame_of}
 use Rattle.gup_law_base.specs.Sound.{IsSound}
-use Rattle.gup_spec_turns.specs.Emptying.{PageRange, has_page, invalidate, left_in}
+use Rattle.gup_spec_turns.specs.Emptying.{has_page, invalidate, left_in}
 use Rattle.gup_spec_turns.specs.Turn.{op_turn}
 use Rattle.gup_notify.specs.Mirrors.{Filled, MirrorsValue, is_of, without}
 use Rattle.gup_notify.specs.Shows.{IsMirror, ShowsMirrors}

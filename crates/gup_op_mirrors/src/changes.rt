@@ -44,7 +44,7 @@ fn may_pin(write: bool, rights: Option<Rights>) -> bool
 // Whether the entry of a page that is made ready is broken, for which a frame must be free, or else cleared.
 fn changes_entry(frames: &Frames, want: Want, entry: Entry) -> bool
     requires { IsFrame (frames_of frames.now) entry.frame }
-    ensures { (s : CoreState) → ShowsFrames (frames_of frames.now) s → result ≡ entry_changes s want entry }
+    ensures { (s : CoreState) (p page : ℕ) → ShowsFrames (frames_of frames.now) s → result ≡ entry_changes s p page want entry }
 {
     let frame = entry.frame;
     if copies(frames, want.write, entry) {

@@ -21,13 +21,13 @@ use Rattle.gup_spec_events.specs.Fault.{Fault, events_of, refusal_of, read_fault
 use Rattle.gup_fault.specs.Faults.{HasEntry, IsWritable, page_word, IsFault}
 use Rattle.gup_spec_turns.specs.PageTurns.{load_turn, load_fault, loads_in, store_turn, store_fault, stores_to}
 use Rattle.gup_spec_turns.proofs.TurnParts.{loads_after, store_fault_by, stores_after}
-use Rattle.gup_spec_turns.specs.CoreTurn.{allows_store, frame_in, free_frame as free_in_state}
+use Rattle.gup_spec_turns.specs.CoreTurn.{allows_store, frame_in, frame_for}
 use Rattle.gup_op_base.specs.declared.said.Head.{Head}
 use Rattle.gup_op_base.specs.Said.{Tells, whats_of, answered_said, loaded_said, stored_said}
 use Rattle.gup_op_base.specs.Turns.{Leads, IsTurnOf, Anywhere}
 use Rattle.gup_op_base.specs.Tidy.{IsTidy}
 use Rattle.gup_op_base.proofs.Leading.{ch, leads_alike, state_of, has_frames, has_space}
-use Rattle.gup_op_base.proofs.Searching.{free_agrees, free_passes}
+use Rattle.gup_op_base.proofs.Searching.{frame_agrees, free_passes}
 use Rattle.gup_op_pages.specs.Alone.{AloneView, ShowsAlone}
 use Rattle.gup_op_pages.proofs.Viewing.{view, before, behind, events_show}
 use Rattle.gup_spec_events.proofs.Runs.{run_behind}
@@ -45,8 +45,8 @@ pub read_fault_same : (F : FramesValue) (S : SpaceValue) (a p page : ℕ) (s : C
     → load_fault s a p page (s.entry p page) ≡ read_fault a p page (S.right page) (S.entry page) (free_frame F Any)
 read_fault_same F S a p page s none frames space =
     ap (λ o. load_fault s a p page o) (space.entry page ∙ none)
-    ∙ ap (λ r. read_fault a p page r None (free_in_state s)) (space.right page)
-    ∙ ap (λ o. read_fault a p page (S.right page) None o) (free_agrees F Any s frames)
+    ∙ ap (λ r. read_fault a p page r None (frame_for s p page Any)) (space.right page)
+    ∙ ap (λ o. read_fault a p page (S.right page) None o) (frame_agrees F p page Any s frames)
     ∙ ap (λ o. read_fault a p page (S.right page) o (free_frame F Any)) (sym none)
 
 -- what a write fault reads of the frame of its entry
@@ -62,8 +62,8 @@ write_fault_same : (F : FramesValue) (S : SpaceValue) (a p page : ℕ) (s : Core
 write_fault_same F S a p page s unallowed frames space =
     ap (λ o. store_fault s a p page o) (space.entry page)
     ∙ ap (λ b. store_fault_by b s a p page (S.entry page)) unallowed
-    ∙ ap (λ r. write_fault a p page r (S.entry page) s.mark s.count (free_in_state s)) (space.right page)
-    ∙ ap (λ o. write_fault a p page (S.right page) (S.entry page) s.mark s.count o) (free_agrees F Any s frames)
+    ∙ ap (λ r. write_fault a p page r (S.entry page) s.mark s.count (frame_for s p page Any)) (space.right page)
+    ∙ ap (λ o. write_fault a p page (S.right page) (S.entry page) s.mark s.count o) (frame_agrees F p page Any s frames)
     ∙ write_fault_reads F a p page (S.right page) (S.entry page) (free_frame F Any) s frames
 
 -- ---- loads

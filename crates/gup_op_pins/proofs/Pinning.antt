@@ -483,7 +483,7 @@ module _ (old new : PinningView) (a p handle page n got far g : ℕ) (here : g �
       (record {
         says = refl;
         shown = record {
-          frames = subst (λ (x : FramesValue). ShowsFrames x t) (sym frames) (record { movable = f.movable; normal = f.normal; count = f.count; mark = f.mark; word = f.word });
+          frames = subst (λ (x : FramesValue). ShowsFrames x t) (sym frames) (record { movable = f.movable; normal = f.normal; count = f.count; mark = f.mark; word = f.word; needs_tables = f.needs_tables });
           space = subst (λ (x : SpaceValue). ShowsSpace p x t) (sym space)
               (record { right = sp.right; pages = sp.pages; entry = sp.entry; sequence = sp.sequence; has_pinned = sp.has_pinned; structure = sp.structure; table = sp.table; walks = sp.walks });
           pins = subst (λ (x : HandlesValue). ShowsHandles x t) (sym pins) shown.pins;

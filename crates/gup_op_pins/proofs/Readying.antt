@@ -25,11 +25,11 @@ use Rattle.gup_slow.specs.Pins.{IsReady, HasFrame, IsPinnable}
 use Rattle.gup_move.specs.Moves.{moved}
 use Rattle.gup_spec_turns.specs.JobPlace.{job_place, place_in, unbegun}
 use Rattle.gup_spec_turns.specs.PinTurns.{pin_fault}
-use Rattle.gup_spec_turns.specs.CoreTurn.{free_in, entry_in}
+use Rattle.gup_spec_turns.specs.CoreTurn.{frame_for, entry_in}
 use Rattle.gup_op_pins.specs.Pins.{IsCleared, raised, fault_to_pin, want_of}
 use Rattle.gup_op_base.specs.Tidy.{IsTidy}
 use Rattle.gup_op_base.proofs.Leading.{state_of, has_frames, has_space}
-use Rattle.gup_op_base.proofs.Searching.{free_agrees, free_passes}
+use Rattle.gup_op_base.proofs.Searching.{frame_agrees, free_passes}
 
 -- ---- which fault it is
 
@@ -52,16 +52,16 @@ write_fault_reads F a p page rights entry free s frames = refl
 
 -- a state's fault is the one that was read of frames and a process
 pub pin_fault_same : (F : FramesValue) (S : SpaceValue) (a p page : ℕ) (write : Bool) (allowed : Allowed) (s : CoreState) → ShowsFrames F s → ShowsSpace p S s
-    → pin_fault s a p page write (free_in s allowed) ≡ fault_to_pin F S a p page write allowed
+    → pin_fault s a p page write (frame_for s p page allowed) ≡ fault_to_pin F S a p page write allowed
 pin_fault_same F S a p page true allowed s frames space =
-    ap (λ r. write_fault a p page r (s.entry p page) s.mark s.count (free_in s allowed)) (space.right page)
-    ∙ ap (λ o. write_fault a p page (S.right page) o s.mark s.count (free_in s allowed)) (space.entry page)
-    ∙ ap (λ o. write_fault a p page (S.right page) (S.entry page) s.mark s.count o) (free_agrees F allowed s frames)
+    ap (λ r. write_fault a p page r (s.entry p page) s.mark s.count (frame_for s p page allowed)) (space.right page)
+    ∙ ap (λ o. write_fault a p page (S.right page) o s.mark s.count (frame_for s p page allowed)) (space.entry page)
+    ∙ ap (λ o. write_fault a p page (S.right page) (S.entry page) s.mark s.count o) (frame_agrees F p page allowed s frames)
     ∙ write_fault_reads F a p page (S.right page) (S.entry page) (free_frame F allowed) s frames
 pin_fault_same F S a p page false allowed s frames space =
-    ap (λ r. unshare_fault a p page r (s.entry p page) s.mark s.count (free_in s allowed)) (space.right page)
-    ∙ ap (λ o. unshare_fault a p page (S.right page) o s.mark s.count (free_in s allowed)) (space.entry page)
-    ∙ ap (λ o. unshare_fault a p page (S.right page) (S.entry page) s.mark s.count o) (free_agrees F allowed s frames)
+    ap (λ r. unshare_fault a p page r (s.entry p page) s.mark s.count (frame_for s p page allowed)) (space.right page)
+    ∙ ap (λ o. unshare_fault a p page (S.right page) o s.mark s.count (frame_for s p page allowed)) (space.entry page)
+    ∙ ap (λ o. unshare_fault a p page (S.right page) (S.entry page) s.mark s.count o) (frame_agrees F p page allowed s frames)
     ∙ unshare_fault_reads F a p page (S.right page) (S.entry page) (free_frame F allowed) s frames
 
 -- the flag is not read

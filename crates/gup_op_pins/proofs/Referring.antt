@@ -22,7 +22,7 @@ use Rattle.gup_spec_events.specs.Invariant.{frame_of}
 use Rattle.gup_spec_events.specs.Fault.{Fault, events_of, refusal_of, read_fault}
 use Rattle.gup_fault.specs.Faults.{IsFault}
 use Rattle.gup_spec_journal.specs.Denial.{has_reference}
-use Rattle.gup_spec_turns.specs.CoreTurn.{entry_in, free_frame as free_in_state}
+use Rattle.gup_spec_turns.specs.CoreTurn.{entry_in, frame_for}
 use Rattle.gup_spec_turns.specs.JobPlace.{place_in, unbegun}
 use Rattle.gup_spec_turns.specs.PageTurns.{load_fault}
 use Rattle.gup_spec_turns.specs.PinTurns.{gets, get_turn, got_by, got_frame, put_turn}
@@ -30,7 +30,7 @@ use Rattle.gup_spec_turns.proofs.TurnParts.{gets_after, put_turn_by}
 use Rattle.gup_op_base.specs.Tidy.{IsTidy}
 use Rattle.gup_op_base.specs.Turns.{Leads, IsTurnOf, Anywhere}
 use Rattle.gup_op_base.proofs.Leading.{ch, leads_alike}
-use Rattle.gup_op_base.proofs.Searching.{free_agrees}
+use Rattle.gup_op_base.proofs.Searching.{frame_agrees}
 use Rattle.gup_op_pins.specs.Pins.{IsReferred, PinningView, ShowsPinning, EndAt}
 use Rattle.gup_op_pins.specs.Held.{ShowsHeld}
 use Rattle.gup_op_pins.proofs.Holding.{view}
@@ -51,8 +51,8 @@ get_fault_same F S a p page s mapped frames space = ap (λ o. load_fault s a p p
 
     go : (o : Option Entry) → S.entry page ≡ o → load_fault s a p page o ≡ read_fault a p page (S.right page) o (free_frame F Any)
     go None is =
-        ap (λ r. read_fault a p page r None (free_in_state s)) (space.right page)
-        ∙ ap (λ o. read_fault a p page (S.right page) None o) (free_agrees F Any s frames)
+        ap (λ r. read_fault a p page r None (frame_for s p page Any)) (space.right page)
+        ∙ ap (λ o. read_fault a p page (S.right page) None o) (frame_agrees F p page Any s frames)
     go (Some e) is = with_entry e (S.right page) (mapped e is)
 
 -- the handle is of a reference of this frame

@@ -153,7 +153,7 @@ all_kept old new a p handle page n far sequence want fast place no_end all some 
     (record {
       says = refl;
       shown = record {
-        frames = subst (λ (x : FramesValue). ShowsFrames x t) (sym frames) (record { movable = f.movable; normal = f.normal; count = f.count; mark = f.mark; word = f.word });
+        frames = subst (λ (x : FramesValue). ShowsFrames x t) (sym frames) (record { movable = f.movable; normal = f.normal; count = f.count; mark = f.mark; word = f.word; needs_tables = f.needs_tables });
         space = subst (λ (x : SpaceValue). ShowsSpace p x t) (sym space)
             (record { right = sp.right; pages = sp.pages; entry = sp.entry; sequence = sp.sequence; has_pinned = sp.has_pinned; structure = sp.structure; table = sp.table; walks = put_own p (s.walks p - 1) s.walks ∙ ap (λ (n : ℕ). n - 1) sp.walks });
         pins = subst (λ (x : HandlesValue). ShowsHandles x t) (sym pins) (pins_made old.pins a handle old.taken want.write u shown.taken writes yet shown.pins);
@@ -230,7 +230,7 @@ walk_begins old new a p handle page n many far want fast begins begun frames spa
     (record {
       says = refl;
       shown = record {
-        frames = subst (λ (x : FramesValue). ShowsFrames x t) (sym frames) (record { movable = f.movable; normal = f.normal; count = f.count; mark = f.mark; word = f.word });
+        frames = subst (λ (x : FramesValue). ShowsFrames x t) (sym frames) (record { movable = f.movable; normal = f.normal; count = f.count; mark = f.mark; word = f.word; needs_tables = f.needs_tables });
         space = subst (λ (x : SpaceValue). ShowsSpace p x t) (sym space)
             (record { right = sp.right; pages = sp.pages; entry = sp.entry; sequence = sp.sequence; has_pinned = put_own p true s.has_pinned; structure = sp.structure; table = sp.table; walks = put_own p (s.walks p + 1) s.walks ∙ ap (λ (n : ℕ). n + 1) sp.walks });
         pins = subst (λ (x : HandlesValue). ShowsHandles x t) (sym pins) shown.pins;

@@ -93,7 +93,7 @@ fill_behind new M a p mirror page es s some filled frames space mirrors =
       shown =
           subst (λ (x : CoreState). ShowsMirroring p new x) (sym after)
           (record {
-            frames = record { movable = frames.movable; normal = frames.normal; count = frames.count; mark = frames.mark; word = frames.word };
+            frames = record { movable = frames.movable; normal = frames.normal; count = frames.count; mark = frames.mark; word = frames.word; needs_tables = frames.needs_tables };
             space = record { right = space.right; pages = space.pages; entry = space.entry; sequence = space.sequence; has_pinned = space.has_pinned; structure = space.structure; table = space.table; walks = space.walks };
             mirrors = filled e found t mirrors;
           });

@@ -69,7 +69,7 @@ parts_shown script parts none spaces many births handles taken stores =
     record {
       frames =
           subst (λ (F : FramesValue). ShowsFrames F (run_start script).core) (sym none)
-          (record { movable = refl; normal = refl; count = λ f. refl; mark = λ f. refl; word = λ f w. refl });
+          (record { movable = refl; normal = refl; count = λ f. refl; mark = λ f. refl; word = λ f w. refl; needs_tables = refl });
       spaces = λ p space here.
           subst (λ (S : SpaceValue). ShowsSpace p S (run_start script).core) (sym (all_at (λ (s : SpaceParts). space_of s ≡ no_space) parts.spaces.items p space spaces here))
           (record { right = λ g. refl; pages = refl; entry = λ g. refl; sequence = refl; has_pinned = refl; structure = refl; table = refl; walks = refl });

@@ -17,7 +17,7 @@ ch F F' S S' = record { old_frames = F; new_frames = F'; old_space = S; new_spac
 
 shows_frames : (F : FramesValue) (s : CoreState) (a p page : ℕ) (e : Entry) (write long : Bool) → ShowsFrames F s → ShowsFrames (with_references e.frame 1024 F) (happens (happens s (raise_flag a p)) (pin_page a p page e write long))
 shows_frames F s a p page e write long h =
-    record { movable = h.movable; normal = h.normal; count = λ g. grind (arith, nat_tests, h.count g, h.count e.frame); mark = h.mark; word = h.word }
+    record { movable = h.movable; normal = h.normal; count = λ g. grind (arith, nat_tests, h.count g, h.count e.frame); mark = h.mark; word = h.word; needs_tables = h.needs_tables }
 
 shows_space : (S : SpaceValue) (s : CoreState) (a p page : ℕ) (e : Entry) (write long : Bool) → ShowsSpace p (unlocked S) s → ShowsSpace p (unlocked (record S { has_pinned = true })) (happens (happens s (raise_flag a p)) (pin_page a p page e write long))
 shows_space S s a p page e write long h =

@@ -68,53 +68,53 @@ leave_other p q space s (e ∷ es) other of h =
 
 pub shows_frames : (p : ℕ) (frames : FramesValue) (s : CoreState) {e : CoreEvent} → IsOf p e → ShowsFrames frames s → ShowsFrames (frames_after e frames) (happens s e)
 shows_frames p frames s (taking a f) h =
-    record { movable = h.movable; normal = h.normal; count = λ g. grind (arith, nat_tests, h.count g); mark = λ g. grind (arith, nat_tests, h.mark g); word = λ g w. grind (arith, nat_tests, h.word g w) }
+    record { movable = h.movable; normal = h.normal; count = λ g. grind (arith, nat_tests, h.count g); mark = λ g. grind (arith, nat_tests, h.mark g); word = λ g w. grind (arith, nat_tests, h.word g w); needs_tables = h.needs_tables }
 shows_frames p frames s (filling a page f) h =
-    record { movable = h.movable; normal = h.normal; count = h.count; mark = λ g. grind (arith, nat_tests, h.mark g); word = h.word }
+    record { movable = h.movable; normal = h.normal; count = h.count; mark = λ g. grind (arith, nat_tests, h.mark g); word = h.word; needs_tables = h.needs_tables }
 shows_frames p frames s (counting a page f writable) h =
-    record { movable = h.movable; normal = h.normal; count = h.count; mark = h.mark; word = h.word }
+    record { movable = h.movable; normal = h.normal; count = h.count; mark = h.mark; word = h.word; needs_tables = h.needs_tables }
 shows_frames p frames s (marking_it a page f) h =
-    record { movable = h.movable; normal = h.normal; count = h.count; mark = λ g. grind (arith, nat_tests, h.mark g); word = h.word }
+    record { movable = h.movable; normal = h.normal; count = h.count; mark = λ g. grind (arith, nat_tests, h.mark g); word = h.word; needs_tables = h.needs_tables }
 shows_frames p frames s (upgrading a page f) h =
-    record { movable = h.movable; normal = h.normal; count = h.count; mark = h.mark; word = h.word }
+    record { movable = h.movable; normal = h.normal; count = h.count; mark = h.mark; word = h.word; needs_tables = h.needs_tables }
 shows_frames p frames s (breaking a page old new was writable) h =
-    record { movable = h.movable; normal = h.normal; count = h.count; mark = λ g. grind (arith, nat_tests, h.mark g); word = λ g w. grind (arith, nat_tests, h.word g w, h.word old w) }
+    record { movable = h.movable; normal = h.normal; count = h.count; mark = λ g. grind (arith, nat_tests, h.mark g); word = λ g w. grind (arith, nat_tests, h.word g w, h.word old w); needs_tables = h.needs_tables }
 shows_frames p frames s (putting a f) h =
-    record { movable = h.movable; normal = h.normal; count = λ g. grind (arith, nat_tests, h.count g, h.count f); mark = λ g. grind (arith, nat_tests, h.mark g, h.mark f, h.count f); word = h.word }
+    record { movable = h.movable; normal = h.normal; count = λ g. grind (arith, nat_tests, h.count g, h.count f); mark = λ g. grind (arith, nat_tests, h.mark g, h.mark f, h.count f); word = h.word; needs_tables = h.needs_tables }
 shows_frames p frames s (dropping a page was) h =
-    record { movable = h.movable; normal = h.normal; count = h.count; mark = h.mark; word = h.word }
+    record { movable = h.movable; normal = h.normal; count = h.count; mark = h.mark; word = h.word; needs_tables = h.needs_tables }
 shows_frames p frames s (discarding a page was) h =
-    record { movable = h.movable; normal = h.normal; count = h.count; mark = h.mark; word = h.word }
+    record { movable = h.movable; normal = h.normal; count = h.count; mark = h.mark; word = h.word; needs_tables = h.needs_tables }
 shows_frames p frames s (mapping a page n rights) h =
-    record { movable = h.movable; normal = h.normal; count = h.count; mark = h.mark; word = h.word }
+    record { movable = h.movable; normal = h.normal; count = h.count; mark = h.mark; word = h.word; needs_tables = h.needs_tables }
 shows_frames p frames s (lowering a page f) h =
-    record { movable = h.movable; normal = h.normal; count = h.count; mark = h.mark; word = h.word }
+    record { movable = h.movable; normal = h.normal; count = h.count; mark = h.mark; word = h.word; needs_tables = h.needs_tables }
 shows_frames p frames s (protecting a page n rights) h =
-    record { movable = h.movable; normal = h.normal; count = h.count; mark = h.mark; word = h.word }
+    record { movable = h.movable; normal = h.normal; count = h.count; mark = h.mark; word = h.word; needs_tables = h.needs_tables }
 shows_frames p frames s (loading a page word f value) h =
-    record { movable = h.movable; normal = h.normal; count = h.count; mark = h.mark; word = h.word }
+    record { movable = h.movable; normal = h.normal; count = h.count; mark = h.mark; word = h.word; needs_tables = h.needs_tables }
 shows_frames p frames s (storing a page word f value) h =
-    record { movable = h.movable; normal = h.normal; count = h.count; mark = h.mark; word = λ g w. grind (arith, nat_tests, h.word g w) }
+    record { movable = h.movable; normal = h.normal; count = h.count; mark = h.mark; word = λ g w. grind (arith, nat_tests, h.word g w); needs_tables = h.needs_tables }
 shows_frames p frames s (flagging a) h =
-    record { movable = h.movable; normal = h.normal; count = h.count; mark = h.mark; word = h.word }
+    record { movable = h.movable; normal = h.normal; count = h.count; mark = h.mark; word = h.word; needs_tables = h.needs_tables }
 shows_frames p frames s (pinning a page e write long) h =
-    record { movable = h.movable; normal = h.normal; count = λ g. grind (arith, nat_tests, h.count g, h.count e.frame); mark = h.mark; word = h.word }
+    record { movable = h.movable; normal = h.normal; count = λ g. grind (arith, nat_tests, h.count g, h.count e.frame); mark = h.mark; word = h.word; needs_tables = h.needs_tables }
 shows_frames p frames s (making a k) h =
-    record { movable = h.movable; normal = h.normal; count = h.count; mark = h.mark; word = h.word }
+    record { movable = h.movable; normal = h.normal; count = h.count; mark = h.mark; word = h.word; needs_tables = h.needs_tables }
 shows_frames p frames s (unpinning a k f left) h =
-    record { movable = h.movable; normal = h.normal; count = λ g. grind (arith, nat_tests, h.count g, h.count f); mark = λ g. grind (arith, nat_tests, h.mark g, h.mark f, h.count f); word = h.word }
+    record { movable = h.movable; normal = h.normal; count = λ g. grind (arith, nat_tests, h.count g, h.count f); mark = λ g. grind (arith, nat_tests, h.mark g, h.mark f, h.count f); word = h.word; needs_tables = h.needs_tables }
 shows_frames p frames s (giving a k to) h =
-    record { movable = h.movable; normal = h.normal; count = h.count; mark = h.mark; word = h.word }
+    record { movable = h.movable; normal = h.normal; count = h.count; mark = h.mark; word = h.word; needs_tables = h.needs_tables }
 shows_frames p frames s (taking_over a k) h =
-    record { movable = h.movable; normal = h.normal; count = h.count; mark = h.mark; word = h.word }
+    record { movable = h.movable; normal = h.normal; count = h.count; mark = h.mark; word = h.word; needs_tables = h.needs_tables }
 shows_frames p frames s (getting a page f k writable) h =
-    record { movable = h.movable; normal = h.normal; count = λ g. grind (arith, nat_tests, h.count g, h.count f); mark = h.mark; word = h.word }
+    record { movable = h.movable; normal = h.normal; count = λ g. grind (arith, nat_tests, h.count g, h.count f); mark = h.mark; word = h.word; needs_tables = h.needs_tables }
 shows_frames p frames s (putting_back a f k) h =
-    record { movable = h.movable; normal = h.normal; count = λ g. grind (arith, nat_tests, h.count g, h.count f); mark = λ g. grind (arith, nat_tests, h.mark g, h.mark f, h.count f); word = h.word }
+    record { movable = h.movable; normal = h.normal; count = λ g. grind (arith, nat_tests, h.count g, h.count f); mark = λ g. grind (arith, nat_tests, h.mark g, h.mark f, h.count f); word = h.word; needs_tables = h.needs_tables }
 shows_frames p frames s (moving_out a k index slot f value) h =
-    record { movable = h.movable; normal = h.normal; count = h.count; mark = h.mark; word = h.word }
+    record { movable = h.movable; normal = h.normal; count = h.count; mark = h.mark; word = h.word; needs_tables = h.needs_tables }
 shows_frames p frames s (moving_in a k index slot f value) h =
-    record { movable = h.movable; normal = h.normal; count = h.count; mark = h.mark; word = λ g w. grind (arith, nat_tests, h.word g w) }
+    record { movable = h.movable; normal = h.normal; count = h.count; mark = h.mark; word = λ g w. grind (arith, nat_tests, h.word g w); needs_tables = h.needs_tables }
 
 pub shows_space : (p : ℕ) (space : SpaceValue) (s : CoreState) {e : CoreEvent} → IsOf p e → ShowsSpace p space s → ShowsSpace p (space_after e space) (happens s e)
 shows_space p space s (taking a f) h =

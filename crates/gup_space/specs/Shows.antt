@@ -1,17 +1,18 @@
 -- What frames and a process are to a state of the core machine.
-use Rattle.std.specs.Prelude.{◌≡◌, ℕ, List, None}
+use Rattle.std.specs.Prelude.{◌≡◌, ℕ, false, List, None}
 use Rattle.gup_frames.specs.Frames.{FramesValue, FrameLists, frames_of}
 use Rattle.gup_space.specs.Space.{SpaceValue, SpaceParts, space_of}
 use Rattle.gup_spec_events.specs.State.{CoreState}
 use Rattle.gup_spec_events.specs.Event.{CoreEvent, run}
 
--- the state has these frames
+-- The state has these frames. The spaces here keep their entries in a flat list, so an entry needs no tables.
 pub record ShowsFrames (frames : FramesValue) (s : CoreState) : Type 0 where
   pub movable : s.movable ≡ frames.movable
   pub normal : s.normal ≡ frames.normal
   pub count : (f : ℕ) → s.count f ≡ frames.count f
   pub mark : (f : ℕ) → s.mark f ≡ frames.mark f
   pub word : (f w : ℕ) → s.word f w ≡ frames.word f w
+  pub needs_tables : s.needs_tables ≡ false
 
 -- the state has this process as process p
 pub record ShowsSpace (p : ℕ) (space : SpaceValue) (s : CoreState) : Type 0 where

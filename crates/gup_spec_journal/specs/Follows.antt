@@ -235,7 +235,7 @@ ForksPage who child page notes =
     IsTurn who (Event (events.ForkPage who.proc child page) ∷ []) notes
     ⊎ Then (IsTurn who (Silent ∷ [])) (SharesOrCopies who child page) notes
 
--- after a page that it counted a fork finds no frame for a copy
+-- after a page that it counted a fork finds no frame for it, for its copy or for a page table
 abbrev pub FailsFork : Who → (child : ℕ) → List NoteValue → Type 0
 FailsFork who child notes =
     Then (IsTurn who (Silent ∷ [])) (IsTurn who (Event (events.ForkFail child) ∷ Done answers.NoFrame ∷ [])) notes

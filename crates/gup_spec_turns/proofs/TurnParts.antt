@@ -1,6 +1,7 @@
 -- Turns by what they find: what a fault comes to, what denies, whether the page is mapped. Each is the turn table's own turn, once
 -- that is put in.
 use Rattle.std.specs.Prelude.{ℕ, Bool, if◌then◌else◌, List, [], ◌∷◌, ◌++◌, Option, Ok}
+use Rattle.gup_base.specs.declared.entry.Allowed.TheVariants.{Any}
 use Rattle.gup_base.specs.declared.entry.Entry.{Entry}
 use Rattle.gup_base.specs.declared.entry.Rights.{Rights}
 use Rattle.gup_base.specs.declared.entry.Zone.{Zone}
@@ -15,7 +16,7 @@ use Rattle.gup_spec_events.specs.State.{CoreState}
 use Rattle.gup_spec_journal.specs.Order.{waiting_at}
 use Rattle.gup_spec_events.specs.Event.{map_pages, protect_pages, drop_entry, discard_entry, unpin_page, give_handle, put_reference}
 use Rattle.gup_spec_events.specs.Fault.{Fault, write_fault, gives_back}
-use Rattle.gup_spec_turns.specs.CoreTurn.{CoreTurn, ends_with, denied_or, after_fault, free_frame}
+use Rattle.gup_spec_turns.specs.CoreTurn.{CoreTurn, ends_with, denied_or, after_fault, frame_for}
 use Rattle.gup_spec_turns.specs.PageTurns.{loads, stores, mapped_turn, lowers_for}
 use Rattle.gup_spec_turns.specs.PinTurns.{last_of, but_last, unpinned, gets}
 use Rattle.gup_spec_turns.specs.DeviceTurns.{moves_at}
@@ -29,7 +30,7 @@ stores_after s fault a p page word value = after_fault fault (λ before. stores 
 
 abbrev pub store_fault_by : (allowed : Bool) → CoreState → (a p page : ℕ) → Option Entry → Fault
 store_fault_by allowed s a p page entry =
-    if allowed then Ok [] else write_fault a p page (s.right p page) entry s.mark s.count (free_frame s)
+    if allowed then Ok [] else write_fault a p page (s.right p page) entry s.mark s.count (frame_for s p page Any)
 
 abbrev pub map_turn_by : (denied : Option Answer) → (a p page n : ℕ) → Rights → CoreTurn
 map_turn_by denied a p page n rights =

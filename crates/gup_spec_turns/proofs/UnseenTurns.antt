@@ -1,5 +1,5 @@
 -- The turn of an operation, but for a look, and what an actor waits for are the same whatever mirror slots are filled.
-use Rattle.std.proofs.Common.{◌≡◌, ℕ, ◌+◌, ◌==◌, ◌&&◌, nat_lt, Bool, true, false, List, ◌++◌, length, Option, Some, None, Ok, Err, refl, ap, ◌∙◌}
+use Rattle.std.proofs.Common.{◌≡◌, ℕ, ◌+◌, ◌==◌, ◌&&◌, nat_lt, if◌then◌else◌, Bool, true, false, List, ◌++◌, length, Option, Some, None, Ok, Err, refl, ap, ◌∙◌}
 use Rattle.gup_base.specs.declared.entry.Allowed.{Allowed}
 use Rattle.gup_base.specs.declared.entry.Allowed.TheVariants.{Any, Only}
 use Rattle.gup_base.specs.declared.entry.Entry.{Entry}
@@ -8,17 +8,17 @@ use Rattle.gup_base.specs.declared.entry.Zone.{Zone}
 use Rattle.gup_base.specs.declared.entry.Zone.TheVariants.{Movable, Normal}
 use Rattle.gup_script.specs.declared.op.Op.{Op}
 use Rattle.gup_script.specs.declared.op.Op.TheVariants.{Load, Store, Pin, Get, Transfer, Mirror, Look, Fork, Exit, Move}
-use Rattle.gup_spec_events.specs.State.{CoreState, Job, moving, forking, walking, Counted, unread, one, more, between, copying, WalkStep, ready}
-use Rattle.gup_spec_events.specs.Event.{CoreEvent, run}
+use Rattle.gup_spec_events.specs.State.{CoreState, Job, moving, forking, walking, Counted, unread, one, more, between, counted, copying, WalkStep, ready}
+use Rattle.gup_spec_events.specs.Event.{CoreEvent, run, has_tables}
 use Rattle.gup_spec_events.specs.Fault.{Fault}
 use Rattle.gup_base.specs.Parts.{words_of, word_at}
 use Rattle.gup_plain.specs.Denial.{transfer_denial}
 use Rattle.gup_plain.specs.Event.{words}
 use Rattle.gup_spec_journal.specs.Order.{handle_waits}
-use Rattle.gup_spec_turns.specs.CoreTurn.{CoreTurn, after_fault, denied_or, entry_in, frame_in, free_in, zones_of}
+use Rattle.gup_spec_turns.specs.CoreTurn.{CoreTurn, after_fault, denied_or, entry_in, frame_in, free_in, frame_for, zones_of}
 use Rattle.gup_spec_turns.specs.PageTurns.{loads, loads_in, stores, stores_to, load_fault, store_fault, exit_turn_by, lowest_page}
 use Rattle.gup_spec_turns.specs.PinTurns.{pins, pins_in, pin_fault, pin_turn_by, pin_turn_in, begins_or_pins, raises, gets, gets_by, moved_turn, pins_moved}
-use Rattle.gup_spec_turns.specs.ForkTurns.{fork_turn, copy_turn, copying_turn, frame_turn, next_page, next_turn, page_turn}
+use Rattle.gup_spec_turns.specs.ForkTurns.{fork_turn, copy_turn, copying_turn, frame_turn, share_turn, next_page, next_turn, page_turn}
 use Rattle.gup_spec_turns.specs.MirrorTurns.{fills, fills_by}
 use Rattle.gup_spec_turns.specs.MoveTurns.{counted_turn, move_turn, place_turn}
 use Rattle.gup_spec_turns.specs.DeviceTurns.{frame_at, moves_from}
@@ -80,13 +80,17 @@ module _ (filled : ℕ → Option ℕ) (s : CoreState) where
   free_unseen (Only Movable) = refl
   free_unseen (Only Normal) = refl
 
+  frame_unseen_for : (p page : ℕ) (allowed : Allowed) → frame_for with_slots p page allowed ≡ frame_for s p page allowed
+  frame_unseen_for p page allowed =
+      ap (λ (free : Option ℕ). if has_tables s p page then free else None) (free_unseen allowed)
+
   begins_unseen : (begins : Bool) (a p handle page n got : ℕ) (want : Want) (fast : Bool) → begins_or_pins begins with_slots a p handle page n got want fast ≡ begins_or_pins begins s a p handle page n got want fast
   begins_unseen true a p handle page n got want fast = refl
   begins_unseen false a p handle page n got want fast =
-      let free = free_unseen (zones_of want) in
-      pinned_by (pin_fault with_slots a p (page + got) want.write (free_in with_slots (zones_of want))) a p handle (page + got) n got want fast
+      let free = frame_unseen_for p (page + got) (zones_of want) in
+      pinned_by (pin_fault with_slots a p (page + got) want.write (frame_for with_slots p (page + got) (zones_of want))) a p handle (page + got) n got want fast
       ∙ ap (λ (fault : Fault). pin_turn_by fault s a p handle (page + got) n got want fast)
-      (fault_unseen a p (page + got) want.write (free_in with_slots (zones_of want)) ∙ ap (pin_fault s a p (page + got) want.write) free)
+      (fault_unseen a p (page + got) want.write (frame_for with_slots p (page + got) (zones_of want)) ∙ ap (pin_fault s a p (page + got) want.write) free)
 
   ready_unseen : (a p handle page n : ℕ) (want : Want) (sequence : ℕ) (more : Bool) → ready_turn with_slots a p handle page n want sequence more ≡ ready_turn s a p handle page n want sequence more
   ready_unseen a p handle page n want sequence true = refl
@@ -133,11 +137,16 @@ module _ (filled : ℕ → Option ℕ) (s : CoreState) where
   frame_unseen a p c done page word (Some f) = refl
 
   copying_unseen : (a p c : ℕ) (done : List ℕ) (page word : ℕ) (prepared : Option ℕ) → copying_turn with_slots a p c done page word prepared ≡ copying_turn s a p c done page word prepared
-  copying_unseen a p c done page word None = frame_unseen a p c done page word (free_in s Any)
+  copying_unseen a p c done page word None = frame_unseen a p c done page word (frame_for s c page Any)
   copying_unseen a p c done page word (Some to) = copy_unseen a p c done page word to (nat_lt word words)
+
+  share_unseen : (a p c : ℕ) (done : List ℕ) (page : ℕ) (entry : Option Entry) (may : Bool) → share_turn with_slots a p c done page entry may ≡ share_turn s a p c done page entry may
+  share_unseen a p c done page entry true = refl
+  share_unseen a p c done page entry false = refl
 
   fork_unseen : (a p child : ℕ) (job : Job) → fork_turn with_slots a p child job ≡ fork_turn s a p child job
   fork_unseen a p child (forking q c done between) = next_unseen a p child done (next_page (s.right child) done)
+  fork_unseen a p child (forking q c done (counted page)) = share_unseen a p child done page (s.entry p page) (has_tables s child page)
   fork_unseen a p child (forking q c done (copying page word)) = copying_unseen a p child done page word (s.prepared a)
   fork_unseen a p child (forking q c done step) = refl
   fork_unseen a p child job = refl

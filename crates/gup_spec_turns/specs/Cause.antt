@@ -1,6 +1,5 @@
 -- Why an operation of a core run is refused, where the plain state doesn't say it, and what an actor waits for.
 use Rattle.std.specs.Prelude.{◌≡◌, ℕ, ◌+◌, ◌<◌, ◌==◌, ◌&&◌, ◌⊎◌, Bool, true, false, Option, Some, None, IsSome, List, [], ◌∷◌, length, map, Contains}
-use Rattle.std.specs.List.{AllByRecursion}
 use Rattle.gup_base.specs.declared.entry.Allowed.{Allowed}
 use Rattle.gup_base.specs.declared.entry.Allowed.TheVariants.{Any, Only}
 use Rattle.gup_base.specs.declared.entry.Entry.{Entry}
@@ -20,12 +19,14 @@ use Rattle.gup_script.specs.declared.op.Op.{Op}
 use Rattle.gup_script.specs.declared.op.Op.TheVariants.{Load, Store, Pin, Get, Mirror, Look, Fork, Move}
 use Rattle.gup_script.specs.Script.{ScriptValue}
 use Rattle.gup_spec_events.specs.State.{CoreState, idle, one, more}
-use Rattle.gup_spec_events.specs.Event.{IsAllowed}
+use Rattle.gup_spec_events.specs.Event.{IsAllowed, has_tables, run}
+use Rattle.gup_spec_events.specs.Growth.{grows}
 use Rattle.gup_spec_journal.specs.Order.{Turn}
 use Rattle.gup_spec_journal.specs.Place.{doer_of, birth_for, has_finished}
 use Rattle.gup_spec_turns.specs.CoreTurn.{zones_of}
 use Rattle.gup_spec_turns.specs.JobPlace.{JobPlace, wants_frame, moving_page, in_walk, place_in}
 use Rattle.gup_spec_turns.specs.Run.{RunState, op_in, waiting_in}
+use Rattle.gup_spec_turns.specs.TableTurns.{Spot, grown_by}
 
 -- each frame of these zones has a reference
 abbrev pub AreHeld : CoreState → Allowed → Type 0
@@ -88,17 +89,32 @@ NeedsFor s a p far (Move proc page zone) = (g : ℕ) × (e : Entry) × (place_in
 NeedsFor s a p far (Fork child) = (page : ℕ) × (place_in s a ≡ wants_frame page)
 NeedsFor s a p far op = ⊥
 
--- the actor's next turn is one of this operation, which it waits for nothing to do, in a process that is born; and it
--- needs a frame
-abbrev pub NeedsFrame : ScriptValue → RunState → (a : ℕ) → Op → Type 0
-NeedsFrame script r a op =
-    let who = doer_of script a (Some op) in
-    (op_in script r a ≡ Some op) × (waiting_in script r a ≡ None) × (birth_for r.core.birth who ≡ born)
-    × NeedsFor r.core a who.proc (r.places a).far op
+-- It puts an entry into the tables of the page that it makes ready: a fork does that for each page that it shares or copies, and
+-- any other where it needs a frame.
+abbrev pub NeedsEntry : CoreState → (a p far : ℕ) → Op → Type 0
+NeedsEntry s a p far (Fork child) = Unit {0}
+NeedsEntry s a p far op = NeedsFor s a p far op
 
--- it needs one, and none that its operation may take is free
+-- that page lacks a table still after it has got those that there were
+abbrev pub LacksTables : CoreState → (a : ℕ) → Option Spot → Type 0
+LacksTables s a None = ⊥
+LacksTables s a (Some at) = has_tables (run s (grows s a at.proc at.page)) at.proc at.page ≡ false
+
+-- a frame that it needs isn't free in the zones that it may take one from, or a table that it needs isn't
+abbrev pub FindsNone : CoreState → (a p far : ℕ) → Op → Type 0
+FindsNone s a p far op =
+    (NeedsFor s a p far op × AreHeld s (allowed_of op)) ⊎ (NeedsEntry s a p far op × LacksTables s a (grown_by s a p far op))
+
+-- the actor's next turn is one of this operation, which it waits for nothing to do, in a process that is born
+abbrev pub IsNext : ScriptValue → RunState → (a : ℕ) → Op → Type 0
+IsNext script r a op =
+    (op_in script r a ≡ Some op) × (waiting_in script r a ≡ None)
+    × (birth_for r.core.birth (doer_of script a (Some op)) ≡ born)
+
+-- it is, and finds no frame, or no table
 abbrev pub FindsNoFrame : ScriptValue → RunState → (a : ℕ) → Type 0
-FindsNoFrame script r a = (op : Op) × NeedsFrame script r a op × AreHeld r.core (allowed_of op)
+FindsNoFrame script r a =
+    (op : Op) × IsNext script r a op × FindsNone r.core a (doer_of script a (Some op)).proc (r.places a).far op
 
 -- the actor's next turn is the first of a move, which it waits for nothing to do, of a page that is mapped and has no entry
 abbrev pub FindsUntouched : ScriptValue → RunState → (a : ℕ) → Type 0
@@ -133,7 +149,7 @@ CoreCause script r a (answers.Unmovable count) = HasPinnedMore script r a count
 CoreCause script r a answers.Stale = FindsStale script r a
 CoreCause script r a answer = ⊥
 
--- the turn answers for want of a frame, or that is the cause of its short pin
+-- the turn answers for want of a frame, a page table's too, or that is the cause of its short pin
 abbrev pub LacksFrame : List What → Type 0
 LacksFrame whats =
     Contains whats (Done answers.NoFrame)

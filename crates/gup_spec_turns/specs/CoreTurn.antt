@@ -11,7 +11,7 @@ use Rattle.gup_plain.specs.declared.answer.Answer.TheVariants as answers
 use Rattle.gup_plain.specs.declared.note.What.{What}
 use Rattle.gup_plain.specs.declared.note.What.TheVariants.{Silent, Done, Event}
 use Rattle.gup_spec_events.specs.State.{CoreState}
-use Rattle.gup_spec_events.specs.Event.{CoreEvent}
+use Rattle.gup_spec_events.specs.Event.{CoreEvent, has_tables}
 use Rattle.gup_plain.specs.declared.event.PlainEvent.{PlainEvent}
 use Rattle.gup_spec_events.specs.Fault.{Fault}
 
@@ -49,9 +49,9 @@ free_in s Any = free_from s 0 (s.movable + s.normal)
 free_in s (Only Movable) = free_from s 0 s.movable
 free_in s (Only Normal) = free_from s s.movable s.normal
 
--- of both zones
-abbrev pub free_frame : CoreState → Option ℕ
-free_frame s = free_in s Any
+-- the frame that it takes for a page: none where the page lacks a table
+abbrev pub frame_for : CoreState → (p page : ℕ) → Allowed → Option ℕ
+frame_for s p page allowed = if has_tables s p page then free_in s allowed else None
 
 -- the zones from which the pages of a pin take frames: a pin that is kept for long has none of the movable zone
 abbrev pub zones_of : Want → Allowed

@@ -1,5 +1,6 @@
 -- The turns of a fork: its beginning, and then page by page.
 use Rattle.std.specs.Prelude.{ℕ, ◌+◌, ◌-◌, nat_lt, Bool, true, false, List, [], ◌∷◌, Option, Some, None, is_some}
+use Rattle.gup_base.specs.declared.entry.Allowed.TheVariants.{Any}
 use Rattle.gup_base.specs.declared.entry.Entry.{Entry}
 use Rattle.gup_base.specs.declared.entry.Rights.{Rights}
 use Rattle.gup_base.specs.declared.entry.Rights.TheVariants.{R}
@@ -9,9 +10,9 @@ use Rattle.gup_plain.specs.declared.answer.Answer.TheVariants as answers
 use Rattle.gup_plain.specs.declared.event.PlainEvent.TheVariants as events
 use Rattle.gup_plain.specs.declared.note.What.TheVariants.{Silent, Event}
 use Rattle.gup_spec_events.specs.State.{CoreState, Job, idle, forking, ForkStep, between, counted, copying}
-use Rattle.gup_spec_events.specs.Event.{take_frame, begin_fork, count_page, share_entry, share_mark, share_child, copy_word, place_child, pass_page, end_fork, copies_page}
+use Rattle.gup_spec_events.specs.Event.{take_frame, begin_fork, count_page, share_entry, share_mark, share_child, copy_word, place_child, pass_page, end_fork, copies_page, has_tables}
 use Rattle.gup_spec_events.specs.Failure.{fails}
-use Rattle.gup_spec_turns.specs.CoreTurn.{CoreTurn, free_frame, frame_in, allows_store, entry_in, ends_with}
+use Rattle.gup_spec_turns.specs.CoreTurn.{CoreTurn, frame_for, frame_in, allows_store, entry_in, ends_with}
 
 -- fork: its beginning, and then page by page
 
@@ -38,9 +39,15 @@ abbrev pub next_turn : CoreState → (a p c : ℕ) → List ℕ → Option ℕ �
 next_turn s a p c done None = ends_with (end_fork a p c done ∷ []) (events.ForkEnd p c) answers.Plain
 next_turn s a p c done (Some page) = page_turn s a p c done page (s.entry p page)
 
--- the counted page is shared: the parent's entry becomes read-only, the mark goes, the child gets its entry
-abbrev pub share_turn : (a p c : ℕ) → List ℕ → (page : ℕ) → Option Entry → CoreTurn
-share_turn a p c done page entry =
+-- at this step the fork fails, and gives back what its child has
+abbrev pub failed_at : CoreState → (a p c : ℕ) → List ℕ → ForkStep → CoreTurn
+failed_at s a p c done step = ends_with (fails a p c done step (s.entry c)) (events.ForkFail c) answers.NoFrame
+
+-- The counted page is shared: the parent's entry becomes read-only, the mark goes, the child gets its entry. Where the child
+-- lacks a table for the page the fork fails.
+abbrev pub share_turn : CoreState → (a p c : ℕ) → List ℕ → (page : ℕ) → Option Entry → (may : Bool) → CoreTurn
+share_turn s a p c done page entry false = failed_at s a p c done (counted page)
+share_turn s a p c done page entry true =
     let f = frame_in entry in
     record {
       events =
@@ -49,11 +56,9 @@ share_turn a p c done page entry =
       whats = Event (events.ForkPage p c page) ∷ [];
     }
 
--- The counted page is copied: first a frame is taken for it. Where none is free the fork fails, and gives back what its
--- child has.
+-- The counted page is copied: first a frame is taken for it. Where none is found the fork fails.
 abbrev pub frame_turn : CoreState → (a p c : ℕ) → List ℕ → (page word : ℕ) → (free : Option ℕ) → CoreTurn
-frame_turn s a p c done page word None =
-    ends_with (fails a p c done (copying page word) (s.entry c)) (events.ForkFail c) answers.NoFrame
+frame_turn s a p c done page word None = failed_at s a p c done (copying page word)
 frame_turn s a p c done page word (Some f) = record { events = take_frame a f ∷ []; whats = Silent ∷ [] }
 
 abbrev pub rights_in : Option Rights → Rights
@@ -72,13 +77,13 @@ copy_turn s a p c done page word to false =
 
 -- a page of which so many words are copied, into the frame that is taken for it
 abbrev pub copying_turn : CoreState → (a p c : ℕ) → List ℕ → (page word : ℕ) → (prepared : Option ℕ) → CoreTurn
-copying_turn s a p c done page word None = frame_turn s a p c done page word (free_frame s)
+copying_turn s a p c done page word None = frame_turn s a p c done page word (frame_for s c page Any)
 copying_turn s a p c done page word (Some to) = copy_turn s a p c done page word to (nat_lt word words)
 
 -- no turn ends within a share, nor within a failure
 abbrev pub fork_step_turn : CoreState → (a p c : ℕ) → List ℕ → ForkStep → CoreTurn
 fork_step_turn s a p c done between = next_turn s a p c done (next_page (s.right c) done)
-fork_step_turn s a p c done (counted page) = share_turn a p c done page (s.entry p page)
+fork_step_turn s a p c done (counted page) = share_turn s a p c done page (s.entry p page) (has_tables s c page)
 fork_step_turn s a p c done (copying page word) = copying_turn s a p c done page word (s.prepared a)
 fork_step_turn s a p c done step = record { events = []; whats = Silent ∷ [] }
 

@@ -1,5 +1,6 @@
 -- The turns of operations on pages: load, store, map, unmap, protect, discard, exit.
 use Rattle.std.specs.Prelude.{ℕ, ◌+◌, Bool, if◌then◌else◌, List, [], ◌∷◌, ◌++◌, Option, Some, None, is_some, Ok, zero, suc}
+use Rattle.gup_base.specs.declared.entry.Allowed.TheVariants.{Any}
 use Rattle.gup_base.specs.declared.entry.Entry.{Entry}
 use Rattle.gup_base.specs.declared.entry.Rights.{Rights}
 use Rattle.gup_base.specs.declared.entry.Rights.TheVariants.{R, RW}
@@ -12,7 +13,7 @@ use Rattle.gup_spec_events.specs.State.{CoreState}
 use Rattle.gup_spec_events.specs.Event.{CoreEvent, map_pages, lower_entry, protect_pages, drop_entry, discard_entry, load, store, run}
 use Rattle.gup_spec_events.specs.Fault.{Fault, read_fault, write_fault, gives_back}
 use Rattle.gup_plain.specs.Denial.{any_mapped, any_unmapped, map_denial, protect_denial}
-use Rattle.gup_spec_turns.specs.CoreTurn.{CoreTurn, answers_with, free_frame, frame_in, allows_store, done_if, silent_or_done, ends_with, denied_or, after_fault}
+use Rattle.gup_spec_turns.specs.CoreTurn.{CoreTurn, answers_with, frame_for, frame_in, allows_store, done_if, silent_or_done, ends_with, denied_or, after_fault}
 use Rattle.gup_plain.specs.declared.event.PlainEvent.{PlainEvent}
 
 -- load
@@ -29,7 +30,7 @@ loads s before a p page word = loads_in (run s before) before a p page word (fra
 -- a page with an entry needs no fault
 abbrev pub load_fault : CoreState → (a p page : ℕ) → Option Entry → Fault
 load_fault s a p page (Some e) = Ok []
-load_fault s a p page None = read_fault a p page (s.right p page) None (free_frame s)
+load_fault s a p page None = read_fault a p page (s.right p page) None (frame_for s p page Any)
 
 abbrev pub load_turn : CoreState → (a p page word : ℕ) → Option Entry → CoreTurn
 load_turn s a p page word entry = after_fault (load_fault s a p page entry) (λ before. loads s before a p page word)
@@ -48,7 +49,7 @@ abbrev pub store_fault : CoreState → (a p page : ℕ) → Option Entry → Fau
 store_fault s a p page entry =
     if allows_store entry
     then Ok []
-    else write_fault a p page (s.right p page) entry s.mark s.count (free_frame s)
+    else write_fault a p page (s.right p page) entry s.mark s.count (frame_for s p page Any)
 
 abbrev pub store_turn : CoreState → (a p page word value : ℕ) → Option Entry → CoreTurn
 store_turn s a p page word value entry =

@@ -15,7 +15,7 @@ use Rattle.gup_spec_events.specs.Event.{CoreEvent, raise_flag, pin_page, make_ha
 use Rattle.gup_spec_events.specs.Fault.{Fault, write_fault, unshare_fault}
 use Rattle.gup_plain.specs.Denial.{is_held_by, holder_denial}
 use Rattle.gup_spec_journal.specs.Denial.{has_reference}
-use Rattle.gup_spec_turns.specs.CoreTurn.{CoreTurn, free_in, zones_of, entry_in, ends_with, denied_or, after_fault}
+use Rattle.gup_spec_turns.specs.CoreTurn.{CoreTurn, free_in, frame_for, zones_of, entry_in, ends_with, denied_or, after_fault}
 use Rattle.gup_spec_turns.specs.PageTurns.{load_fault}
 use Rattle.gup_spec_turns.specs.MoveTurns.{count_turn}
 use Rattle.gup_spec_turns.specs.WalkTurns.{begin_turn, walk_turn}
@@ -90,7 +90,8 @@ pin_turn_by (Ok before) s a p handle page n got want fast =
 -- the slow turn of a pin that has got so many pages, and is in the middle of none
 abbrev pub pin_turn_at : CoreState → (a p handle page n got : ℕ) → Want → (fast : Bool) → CoreTurn
 pin_turn_at s a p handle page n got want fast =
-    pin_turn_by (pin_fault s a p (page + got) want.write (free_in s (zones_of want))) s a p handle (page + got) n got want fast
+    pin_turn_by (pin_fault s a p (page + got) want.write (frame_for s p (page + got) (zones_of want))) s a p handle (page + got) n got want
+    fast
 
 -- one that walks begins with that
 abbrev pub begins_or_pins : (begins : Bool) → CoreState → (a p handle page n got : ℕ) → Want → (fast : Bool) → CoreTurn

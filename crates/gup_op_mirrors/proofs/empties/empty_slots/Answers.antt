@@ -1,4 +1,4 @@
-use Rattle.std.proofs.Common.{◌≡◌, ℕ, Option, Some, None, sym, ap, ◌∙◌}
+use Rattle.std.proofs.Common.{◌≡◌, Option, Some, None, sym, ap, ◌∙◌}
 use Rattle.gup_spec_turns.specs.Turn.{op_turn}
 use Rattle.gup_notify.specs.Mirrors.{Filled, MirrorsValue, mirrors_of}
 use Rattle.gup_op_mirrors.proofs.EmptiedSlots.{none_left}

@@ -1,10 +1,11 @@
 use Rattle.std.proofs.Common.{◌≡◌, ◌+◌, ◌==◌, ◌&&◌, not, Bool, sym, ap, ◌∙◌}
+use Rattle.gup_frames.specs.Frames.{frames_of}
 use Rattle.gup_space.specs.Space.{space_of}
 use Rattle.gup_spec_turns.specs.JobPlace.{JobPlace}
 use Rattle.gup_op_base.specs.Jobs.{place_of}
 use Rattle.gup_law_mirrors.specs.Invalidated.{page_if, changes_page}
 use Rattle.gup_op_mirrors.specs.Places.{at_beginning}
-use Rattle.gup_op_mirrors.proofs.StandingPlaces.{protect_page, pin_less, pin_page}
+use Rattle.gup_op_mirrors.proofs.StandingPlaces.{protect_page, pin_less, pin_page, shared_page}
 use Rattle.gup_op_mirrors.proofs.ranges.first_page.Goals as goal
 use Rattle.gup_op_mirrors.proofs.ranges.first_page.Goals.{then-fast, else-fast}
 
@@ -14,6 +15,12 @@ returns-in-Protect c s a p k frames space place many fits at =
     c.page_if.ensures
     ∙ ap (λ (b : Bool). page_if b protect.page) c.are_mapped.ensures
     ∙ protect_page (space_of c.args.space.now) s a p k protect.page protect.n protect.rights c.args.op.now protect.is space
+
+pub returns-in-Fork : goal.returns-in-Fork
+returns-in-Fork c s a p k frames space place many fits at =
+    let fork = c.in-Fork in
+    c.shared.ensures
+    ∙ shared_page (frames_of c.args.frames.now) s a p k fork.child (place_of c.args.place.now) c.args.op.now fork.is frames place
 
 pub returns-after-fast : goal.returns-after-fast
 returns-after-fast c s a p k frames space place many fits at =
