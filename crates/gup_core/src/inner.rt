@@ -1,5 +1,7 @@
 //! The machine but for what it keeps of notes: its script and parts, the mirror slots, and where each actor stands.
 ghost use Rattle.std.specs.Prelude.{◌≡◌, ℕ, ◌+◌, ◌<◌, ◌≤◌, List, [], ◌∷◌, length, slice_get, Some, IfOk, IsTrue, false};
+ghost use Rattle.gup_space.specs.Space.{space_of};
+ghost use Rattle.gup_space.specs.Shows.{ShowsSpace};
 ghost use Rattle.gup_spec_journal.specs.Place.{has_finished};
 ghost use Rattle.gup_spec_turns.specs.Run.{RunState, waiting_in};
 ghost use Rattle.gup_core.specs.Machine.{Shows, IsNew, counted, free_frames_in};
@@ -18,7 +20,7 @@ use crate::outcome::{Advanced, Woken, woken_by};
 use crate::slots::take_turn;
 use crate::takes::waits_at;
 use crate::turns::{next_turn, op_at, ops, process};
-use gup_base::{ActorNo, NoMemory, Zone};
+use gup_base::{ActorNo, NoMemory, ProcNo, Zone};
 use gup_image::{KeptFact, image, is_whole};
 use gup_notify::Mirrors;
 use gup_op_base::{Head, JobPlace};
@@ -26,6 +28,7 @@ use gup_op_waits::parts::{self, Parts};
 use gup_op_waits::seats::{self, Seat, seat_of, set_seat};
 use gup_plain::{Journal, Waiting, What};
 use gup_script::Script;
+use gup_space::Space;
 use std::alloc::Global;
 use std::marker::Model;
 
@@ -266,6 +269,13 @@ impl Inner {
         ensures { (r : RunState) → Shows self.now r → result ≡ has_finished self.now.script actor (r.places actor) }
     {
         ops(&self.script, actor).len() <= self.seat(actor).answered as usize
+    }
+
+    pub(crate) fn space(&self, proc: ProcNo) -> &Space
+        requires { proc < length self.now.script.processes }
+        ensures { (r : RunState) → Shows self.now r → ShowsSpace proc (space_of result.now) r.core }
+    {
+        &self.parts.spaces[proc.get() as usize]
     }
 
     pub(crate) fn free_frames(&self, zone: Zone) -> u32

@@ -1,5 +1,7 @@
 //! The machine of a script, for many processes and actors.
 ghost use Rattle.std.specs.Prelude.{◌≡◌, ℕ, ◌<◌, List, [], length, IfOk, OnOk, OnErr};
+ghost use Rattle.gup_space.specs.Space.{space_of};
+ghost use Rattle.gup_space.specs.Shows.{ShowsSpace};
 ghost use Rattle.gup_spec_journal.specs.Place.{has_finished};
 ghost use Rattle.gup_spec_turns.specs.Run.{RunState, waiting_in};
 ghost use Rattle.gup_core.specs.Machine.{MachineValue, Shows, TakesTurns, IsNew, free_frames_in};
@@ -12,7 +14,7 @@ ghost use Rattle.gup_core.specs.Going.{Advances, WritesTurn};
 use crate::inner::Inner;
 use crate::outcome::Advanced;
 use crate::turn::Turn;
-use gup_base::{ActorNo, NoMemory, Zone};
+use gup_base::{ActorNo, NoMemory, ProcNo, Zone};
 use gup_image::KeptFact;
 use gup_law_image::{
     images_are_exact as facts_are_exact, images_are_of_states as facts_are_of_states,
@@ -20,6 +22,7 @@ use gup_law_image::{
 use gup_law_turns::reached_states_stand;
 use gup_plain::{Journal, Waiting};
 use gup_script::Script;
+use gup_space::Space;
 use std::alloc::Global;
 use std::marker::Model;
 
@@ -146,6 +149,15 @@ impl Machine {
         ensures { (facts : List FactValue) → facts ≡ image_in (imaged self.now) → IsImage self.now facts }
     {
         self.inner.has_image();
+    }
+
+    /// The process: its mappings and entries, its sequence, whether it has pinned, how many walks run in it, and who holds its
+    /// locks. It is as the states are that the machine shows.
+    pub fn space(&self, proc: ProcNo) -> &Space
+        requires { proc < length self.now.script.processes }
+        ensures { (r : RunState) → Shows self.now r → ShowsSpace proc (space_of result.now) r.core }
+    {
+        self.inner.space(proc)
     }
 
     /// How many frames of the zone are free.
