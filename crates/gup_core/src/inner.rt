@@ -284,7 +284,6 @@ impl Inner {
         self.parts.frames.free(zone)
     }
 
-    /// The image.
     pub(crate) fn image(&self, alloc: Global) -> Result<Vec<KeptFact>, NoMemory>
         ensures { IfOk result (λ facts. IsImage self.now facts.items) }
     {
@@ -294,7 +293,6 @@ impl Inner {
         image(alloc, &self.parts, &self.mirrors, &self.seats)
     }
 
-    /// A law: it has an image.
     pub(crate) fn has_image(&self)
         ensures { (facts : List FactValue) → facts ≡ image_in (imaged self.now) → IsImage self.now facts }
     {

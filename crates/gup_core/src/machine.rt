@@ -151,8 +151,7 @@ impl Machine {
         self.inner.has_image();
     }
 
-    /// The process: its mappings and entries, its sequence, whether it has pinned, how many walks run in it, and who holds its
-    /// locks. It is as the states are that the machine shows.
+    /// The declared process, with its mappings, entries, locks and walks, as the states have it that the machine shows.
     pub fn space(&self, proc: ProcNo) -> &Space
         requires { proc < length self.now.script.processes }
         ensures { (r : RunState) → Shows self.now r → ShowsSpace proc (space_of result.now) r.core }

@@ -99,16 +99,14 @@ fn take_mirror(
 )
     requires there { proc < length parts.old.spaces.items }
     requires tidy { EachSpace (IsTidy (frames_of parts.old.frames)) parts.old.spaces.items }
-    requires table { (space : SpaceParts) → slice_get parts.old.spaces.items proc ≡ Some space
-        → (space_of space).table ≡ None }
+    requires table { (space : SpaceParts) → slice_get parts.old.spaces.items proc ≡ Some space → (space_of space).table ≡ None }
     requires room { 3 ≤ journal.old.room }
     ensures spaces { length parts.new.spaces.items ≡ length parts.old.spaces.items }
     ensures births { parts.new.births ≡ parts.old.births }
     ensures handles { parts.new.handles ≡ parts.old.handles }
     ensures taken { parts.new.taken ≡ parts.old.taken }
     ensures stores { parts.new.stores ≡ parts.old.stores }
-    ensures other_spaces { (q : ℕ) → (q ≡ proc → ⊥)
-        → slice_get parts.new.spaces.items q ≡ slice_get parts.old.spaces.items q }
+    ensures other_spaces { (q : ℕ) → (q ≡ proc → ⊥) → slice_get parts.new.spaces.items q ≡ slice_get parts.old.spaces.items q }
     ensures turn { TellsTurn head.now journal.old journal.new true
         (λ said. (old new : SpaceParts)
         → slice_get parts.old.spaces.items proc ≡ Some old → slice_get parts.new.spaces.items proc ≡ Some new

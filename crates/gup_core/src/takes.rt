@@ -13,7 +13,7 @@ ghost use Rattle.gup_spec_turns.specs.Turn.{op_turn, failed_turn, turn_of};
 ghost use Rattle.gup_spec_turns.specs.PinTurns.{get_turn};
 ghost use Rattle.gup_spec_turns.specs.DeviceTurns.{transfer_turn};
 ghost use Rattle.gup_spec_turns.specs.ForkTurns.{fork_turn};
-ghost use Rattle.gup_spec_turns.specs.JobPlace.{JobPlace as Place, KeepsNoJob};
+ghost use Rattle.gup_spec_turns.specs.JobPlace.{JobPlace as Place, KeepsNoJob, place_in, unbegun, in_walk};
 ghost use Rattle.gup_op_pages.specs.Alone.{IsAlone, ShowsAlone, alone_view};
 ghost use Rattle.gup_op_base.specs.declared.jobs.JobPlace.TheVariants.{Unbegun};
 ghost use Rattle.gup_op_base.specs.Far.{HasFar, far_in};
@@ -27,7 +27,6 @@ ghost use Rattle.gup_op_base.specs.Said.{TellsTurn, whats_of};
 ghost use Rattle.gup_op_base.specs.Turns.{IsTurnOf, Anywhere};
 ghost use Rattle.gup_op_base.specs.Tidy.{AreNumbered, IsTidy, needs_table};
 ghost use Rattle.gup_spec_events.specs.State.{CoreState, Taken, WalkStep};
-ghost use Rattle.gup_spec_turns.specs.JobPlace.{place_in, unbegun, in_walk};
 ghost use Rattle.gup_spec_turns.specs.Waits.{waiting_for};
 ghost use Rattle.gup_op_waits.specs.Births.{HasFailed, birth_by};
 ghost use Rattle.gup_op_waits.specs.Doers.{HasProcess, IsProcessOf};
@@ -305,8 +304,7 @@ fn take_get(
 )
     requires there { proc < length parts.old.spaces.items }
     requires tidy { EachSpace (IsTidy (frames_of parts.old.frames)) parts.old.spaces.items }
-    requires table { (space : SpaceParts) → slice_get parts.old.spaces.items proc ≡ Some space
-        → (space_of space).table ≡ None }
+    requires table { (space : SpaceParts) → slice_get parts.old.spaces.items proc ≡ Some space → (space_of space).table ≡ None }
     requires few { (f : ℕ) → (frames_of parts.old.frames).count f < 2 ^ 40 }
     requires unmade { handles_of parts.old.handles handle ≡ unmade }
     requires room { 3 ≤ journal.old.room }
