@@ -37,7 +37,7 @@ goes_so m a seat op here present ready r h =
 
 -- a turn that changes nothing
 pub still_taken : (m : MachineValue) (a : ℕ) (seat : Seat) (turns : ℕ) (what : What) → slice_get m.seats a ≡ Some seat → turns ≡ counted m.turns → IsStill m a what
-    → TakesTurns m (machine_of m.script m.parts m.mirrors m.seats turns) a (notes_of_turn turns a (seat.answered + 1) (what ∷ []))
+    → TakesTurns m (machine_of m.script m.parts m.mirrors m.seats m.pool turns) a (notes_of_turn turns a (seat.answered + 1) (what ∷ []))
 still_taken m a seat turns what here count still r h =
     let is = still r h in
     record {

@@ -1,5 +1,5 @@
 -- Machines with the same image, and machines that show the same state.
-use Rattle.std.proofs.Common.{◌≡◌, ℕ, ◌+◌, ◌<◌, Bool, List, [], ◌∷◌, Option, Some, None, slice_get, length, get_or, refl, sym, ap, subst, ◌∙◌, arith}
+use Rattle.std.proofs.Common.{◌≡◌, ℕ, ◌+◌, ◌<◌, Bool, inr, true, List, [], ◌∷◌, Option, Some, None, slice_get, length, get_or, refl, sym, ap, subst, ◌∙◌, arith}
 use Rattle.std.proofs.lemmas.Option.{slice_get_within, slice_get-get_or}
 use Rattle.gup_base.specs.declared.entry.Want.{Want}
 use Rattle.gup_script.specs.declared.op.Op.{Op}
@@ -14,17 +14,21 @@ use Rattle.gup_spec_turns.specs.PinPlace.{IsWalkingPin, StandsAtPage}
 use Rattle.gup_law_turns.specs.Standing.{IsStanding}
 use Rattle.gup_notify.specs.Mirrors.{mirrors_of}
 use Rattle.gup_notify.specs.Shows.{ShowsMirrors}
+use Rattle.gup_tables.specs.Pool.{pool_of}
+use Rattle.gup_space.specs.Shows.{ShowsPool, ShowsSpace}
+use Rattle.gup_space.specs.Space.{space_of, has_table}
+use Rattle.gup_law_tables.specs.Standing.{has as tables_have, has_table as has_in}
 use Rattle.gup_op_base.specs.declared.jobs.JobPlace.{JobPlace as KeptPlace}
 use Rattle.gup_op_base.specs.declared.jobs.JobPlace.TheVariants.{Walking}
 use Rattle.gup_op_base.specs.declared.jobs.WalkPlace.TheVariants.{Dropping}
 use Rattle.gup_op_base.specs.Jobs.{place_of}
 use Rattle.gup_op_pins.specs.Pins.{EndAt, last_page}
-use Rattle.gup_op_waits.specs.Parts.{ShowsParts}
+use Rattle.gup_op_waits.specs.Parts.{ShowsParts, EachSpace}
 use Rattle.gup_op_waits.specs.Seats.{IsSeat}
 use Rattle.gup_op_waits.specs.declared.seats.Seat.{Seat}
 use Rattle.gup_image.specs.declared.fact.Fact.{Fact}
 use Rattle.gup_law_image.specs.Alike.{AreOfOne, AreSameSeats}
-use Rattle.gup_core.specs.Machine.{MachineValue, Shows, IsReached}
+use Rattle.gup_core.specs.Machine.{MachineValue, Shows, IsReached, IsMachine}
 use Rattle.gup_core.specs.Images.{imaged, IsImage}
 use Rattle.gup_core.proofs.Resting.{Stand, standing}
 
@@ -39,7 +43,18 @@ of_one m n a b same i j =
       stores = i.machine.parts.stores ∙ ap (λ (s : ScriptValue). length s.actors) same ∙ sym j.machine.parts.stores;
       slots = λ k x y here there. i.machine.parts.slots k x here ∙ ap (λ (s : ScriptValue). (doer s k).slots) same ∙ sym (j.machine.parts.slots k y there);
       seats = i.machine.seats ∙ ap (λ (s : ScriptValue). length s.actors) same ∙ sym j.machine.seats;
+      tables = i.machine.tables ∙ ap (λ (s : ScriptValue). s.frames.tables) same ∙ sym j.machine.tables;
     }
+
+-- the tables of its processes are the script's
+pub tables_within : (m : MachineValue) → IsMachine m → IsScript m.script → Stand → EachSpace (λ s. (table : ℕ) → has_table s table ≡ true → table < (pool_of m.pool).tables) m.parts.spaces.items
+tables_within m is valid stand p space here table has =
+    let r : RunState = is.shown.0 in
+    let shows : ShowsSpace p (space_of space) r.core = is.shown.1.parts.spaces p space here in
+    let stands : IsStanding m.script r = standing m r stand valid is.shown.1 in
+    let there : has_in r.core p table ≡ true =
+    ap (λ f. tables_have f (r.core.retired p) table) shows.place ∙ ap (λ ts. tables_have (space_of space).place ts table) shows.retired ∙ has in
+    subst (λ n. table < n) (sym is.tables) (stands.few_tables table (inr (p, there)))
 
 -- ---- the same image
 
@@ -50,12 +65,14 @@ seat_there xs ys a x many here =
 
 pub exact : (m n : MachineValue) (r : RunState) → m.script ≡ n.script → length m.seats ≡ length n.seats → AreSameSeats m.seats n.seats
     → (ShowsParts n.parts r.core → ShowsParts m.parts r.core) → (ShowsMirrors (mirrors_of n.mirrors) r.core → ShowsMirrors (mirrors_of m.mirrors) r.core)
+    → (ShowsPool (pool_of n.pool) r.core → ShowsPool (pool_of m.pool) r.core)
     → Shows n r → Shows m r
-exact m n r same many alike parts mirrors h =
+exact m n r same many alike parts mirrors pool h =
     record {
       reached = subst (λ (s : ScriptValue). IsReached s r) (sym same) h.reached;
       parts = parts h.parts;
       mirrors = mirrors h.mirrors;
+      pool = pool h.pool;
       seats = λ a x here.
           let y = seat_there m.seats n.seats a x many here in
           let one = alike a x y.0 here y.1 in

@@ -28,15 +28,15 @@ use Rattle.gup_op_waits.specs.Births.{HasFailed}
 use Rattle.gup_op_waits.specs.Doers.{HasProcess, IsProcessOf}
 use Rattle.gup_op_waits.specs.declared.parts.Parts.{Parts}
 use Rattle.gup_op_waits.specs.Stands.{StandsAt}
-use Rattle.gup_core.specs.Goes.{IsForkReady, IsReady, KeepsSlots}
+use Rattle.gup_op_turns.specs.Goes.{IsForkReady, IsReady, KeepsSlots}
 use Rattle.gup_core.specs.Machine.{MachineValue, Shows, IsMachine}
 use Rattle.gup_op_waits.specs.Parts.{AreParts}
 use Rattle.gup_core.specs.Rest.{IsAtRest, HoldsNoLock, IsReadyPin, op_of_seat}
 use Rattle.gup_core.proofs.Resting.{Stand, standing, op_there, stands_at}
-use Rattle.gup_core.proofs.Scripts.{thread_there, own_process, found_there, has_process, few_answered}
-use Rattle.gup_core.proofs.Singles.{table_process, single_keeps}
-use Rattle.gup_core.proofs.Refusing.{birth_unfailed}
-use Rattle.gup_core.proofs.Turning.{there}
+use Rattle.gup_op_turns.proofs.Scripts.{thread_there, own_process, found_there, has_process, few_answered}
+use Rattle.gup_op_turns.proofs.Singles.{table_process, single_keeps}
+use Rattle.gup_op_turns.proofs.Refusing.{birth_unfailed}
+use Rattle.gup_op_turns.proofs.Turning.{there}
 use Rattle.gup_base.specs.declared.entry.Want.{Want}
 use Rattle.gup_frames.specs.Frames.{FramesValue}
 use Rattle.gup_space.specs.Space.{SpaceValue}

@@ -15,12 +15,12 @@ use Rattle.gup_script.specs.Limits.{most_handles}
 use Rattle.gup_script.specs.Valid.{IsScript}
 use Rattle.gup_spec_journal.specs.Place.{doer_of, ops_of, process_of, present_op}
 use Rattle.gup_frames.specs.Frames.{FramesValue, IsFrame, frames_of}
-use Rattle.gup_space.specs.Space.{SpaceValue, space_of}
+use Rattle.gup_space.specs.Space.{SpaceValue, space_of, lacking}
 use Rattle.gup_space.specs.Shows.{ShowsFrames, ShowsSpace}
 use Rattle.gup_handles.specs.Handles.{HandleValue, handles_of}
 use Rattle.gup_handles.specs.Handles as kept
 use Rattle.gup_handles.specs.Shows.{IsShown}
-use Rattle.gup_spec_events.specs.Event.{bias, taken_frames as frames_taken}
+use Rattle.gup_spec_events.specs.Event.{bias, taken_frames as frames_taken, has_tables}
 use Rattle.gup_spec_events.specs.Invariant.{frame_of, grabbed_frame}
 use Rattle.gup_notify.specs.Mirrors.{Filled, MirrorsValue, mirrors_of}
 use Rattle.gup_notify.specs.Shows.{IsMirror, ShowsMirrors}
@@ -32,7 +32,9 @@ use Rattle.gup_spec_turns.specs.ForkTurns.{first_behind}
 use Rattle.gup_spec_turns.specs.JobPlace.{JobPlace, job_place, place_in, KeepsNoJob, StandsFork, StandsMove, IsForking, HasCounted, IsPrepared}
 use Rattle.gup_spec_turns.specs.Cost.{pins_turns}
 use Rattle.gup_law_turns.proofs.PinPace.{pin_left}
-use Rattle.gup_law_turns.specs.Standing.{IsStanding, StandsHandle, given_back, back_in}
+use Rattle.gup_law_tables.specs.Standing.{HavePaths, lacking as lacking_in}
+use Rattle.gup_law_turns.specs.Standing.{IsStanding, CopyStands, StandsHandle, given_back, back_in}
+use Rattle.gup_op_base.proofs.Searching.{tables_agree}
 use Rattle.gup_op_base.specs.Far.{HasFar}
 use Rattle.gup_op_fork.specs.Forked.{IsCountedIn, IsCopyOf, IsReadyAt}
 use Rattle.gup_op_pins.specs.Pins.{IsReferred, IsCountedWalk, IsWithinPin, IsPinnedFrame, IsReadyToWalk, frames_in}
@@ -40,7 +42,7 @@ use Rattle.gup_fast.specs.Walks.{first_of, last_of}
 use Rattle.gup_op_move.specs.Moving.{IsReadyToMove}
 use Rattle.gup_spec_turns.specs.PinPlace.{StandsPin, HasTaken, HasPages, IsWithin, IsAtStep, IsWalkingPin, StandsAtPage as IsAtPage}
 use Rattle.gup_base.specs.declared.entry.Want.{Want}
-use Rattle.gup_core.proofs.Pinning.{length_frames}
+use Rattle.gup_op_turns.proofs.Pinning.{length_frames}
 use Rattle.gup_op_base.specs.Tidy.{IsTidy}
 use Rattle.gup_op_waits.specs.declared.seats.Seat.{Seat}
 use Rattle.gup_core.specs.Machine.{MachineValue, Shows, IsReached, IsMachine}
@@ -118,20 +120,26 @@ copy_of s F P p page to frames parent h = (
 
 -- a fork that has begun holds its parent's structure lock, and what it has counted it can share or copy
 pub ready_at : (s : CoreState) (F : FramesValue) (P C : SpaceValue) (a p child : ℕ) → ShowsFrames F s → ShowsSpace p P s → ShowsSpace child C s
-    → StandsFork s a p child (s.job a) (s.prepared a) → ((f : ℕ) → s.prepared a ≡ Some f → IsPrepared s f) → IsReadyAt F a (place_in s a) P C
-ready_at s F P C a p child frames parent kid stands prepares = go (s.job a) (s.prepared a) stands prepares
+    → StandsFork s a p child (s.job a) (s.prepared a) → ((f : ℕ) → s.prepared a ≡ Some f → IsPrepared s f) → CopyStands s a → IsReadyAt F a (place_in s a) P C
+ready_at s F P C a p child frames parent kid stands prepares copies = go (s.job a) (s.prepared a) refl refl stands
   where
-    go : (job : Job) (prepared : Option ℕ) → StandsFork s a p child job prepared → ((f : ℕ) → prepared ≡ Some f → IsPrepared s f) → IsReadyAt F a (job_place job prepared) P C
-    go idle prepared h kept_so = tt
-    go (forking q c done between) prepared h kept_so = sym parent.structure ∙ h.locked
-    go (forking q c done (counted page)) prepared h kept_so =
+    -- the child lacks no page table for a page that is copied
+    path : (q c page word to : ℕ) (done : List ℕ) → c ≡ child → s.job a ≡ forking q c done (copying page word) → s.prepared a ≡ Some to → lacking C page ≡ 0
+    path q c page word to done into is has =
+        let tables : has_tables s child page ≡ true = subst (λ (k : ℕ). has_tables s k page ≡ true) into (copies q c page word to done is has) in
+        eqb-true (lacking C page) 0 (sym (tables_agree F C child page s frames kid) ∙ tables)
+
+    go : (job : Job) (prepared : Option ℕ) → s.job a ≡ job → s.prepared a ≡ prepared → StandsFork s a p child job prepared → IsReadyAt F a (job_place job prepared) P C
+    go idle prepared is has h = tt
+    go (forking q c done between) prepared is has h = sym parent.structure ∙ h.locked
+    go (forking q c done (counted page)) prepared is has h =
         (sym parent.structure ∙ h.0.locked, counted_in s P C a p child q c done page parent kid h.0 h.1)
-    go (forking q c done (copying page word)) None h kept_so =
+    go (forking q c done (copying page word)) None is has h =
         (sym parent.structure ∙ h.0.locked, counted_in s P C a p child q c done page parent kid h.0 h.1)
-    go (forking q c done (copying page word)) (Some to) h kept_so =
-        (sym parent.structure ∙ h.0.locked, counted_in s P C a p child q c done page parent kid h.0 h.1, copy_of s F P p page to frames parent (kept_so to refl), h.2)
-    go (forking q c done step) prepared h kept_so = absurd h
-    go job prepared h kept_so = absurd h
+    go (forking q c done (copying page word)) (Some to) is has h =
+        (sym parent.structure ∙ h.0.locked, counted_in s P C a p child q c done page parent kid h.0 h.1, copy_of s F P p page to frames parent (prepares to has), h.2, path q c page word to done h.0.into is has)
+    go (forking q c done step) prepared is has h = absurd h
+    go job prepared is has h = absurd h
 
 -- ---- moves
 
@@ -143,10 +151,17 @@ held_moved s F a q g e allowed count sound frames is none =
     let some = whole_counts sound.0 s sound.1 q g e (sound.1.whole_moved a m moves) in
     omega (arith, some, none, frames.count e.frame, sound.1.count_is e.frame)
 
--- the page that a move has cleared is mapped and has no entry, and the frame of the entry has a reference
-pub ready_to_move : (s : CoreState) (F : FramesValue) (S : SpaceValue) (a p page : ℕ) (zone : Zone) → IsSound s → ((f : ℕ) → (F.count f ≡ 0 → ⊥) → IsFrame F f) → ShowsFrames F s → ShowsSpace p S s
+-- the page whose entry was cleared lacks no page table in the process that the state shows
+path_of : (s : CoreState) (S : SpaceValue) (a p page q g : ℕ) (e : Entry) (allowed : Allowed) (count : Counted) → HavePaths s.place s.entry s.job → ShowsSpace p S s → q ≡ p → g ≡ page → s.job a ≡ moving q g e allowed count → lacking S page ≡ 0
+path_of s S a p page q g e allowed count paths space own here is =
+    let cleared : lacking_in (s.place q) g ≡ 0 = paths.cleared a q g e allowed count is in
+    let full : lacking_in (s.place p) page ≡ 0 = subst (λ (k : ℕ). lacking_in (s.place p) k ≡ 0) here (subst (λ (k : ℕ). lacking_in (s.place k) g ≡ 0) own cleared) in
+    ap (λ place. lacking_in place page) (sym space.place) ∙ full
+
+-- the page that a move has cleared is mapped, has no entry and lacks no page table, and the frame of the entry has a reference
+pub ready_to_move : (s : CoreState) (F : FramesValue) (S : SpaceValue) (a p page : ℕ) (zone : Zone) → IsSound s → HavePaths s.place s.entry s.job → ((f : ℕ) → (F.count f ≡ 0 → ⊥) → IsFrame F f) → ShowsFrames F s → ShowsSpace p S s
     → StandsMove s a p page zone (s.job a) → IsReadyToMove F page (place_in s a) S
-ready_to_move s F S a p page zone sound there frames space stands = go (s.job a) (s.prepared a) refl stands
+ready_to_move s F S a p page zone sound paths there frames space stands = go (s.job a) (s.prepared a) refl stands
   where
     held_so : (q g : ℕ) (e : Entry) (allowed : Allowed) (count : Counted) → s.job a ≡ moving q g e allowed count → F.count e.frame ≡ 0 → ⊥
     held_so q g e allowed count is none = held_moved s F a q g e allowed count sound frames is none
@@ -159,14 +174,15 @@ ready_to_move s F S a p page zone sound there frames space stands = go (s.job a)
       sym (space.entry page) ∙ h.4.absent,
       there e.frame (held_so q g e allowed count is),
       held_so q g e allowed count is,
+      path_of s S a p page q g e allowed count paths space h.0 h.1 is,
     )
     go job prepared is h = absurd h
 
 -- and so is the page that a long pin has cleared, whose entry is right for the pin
-pub ready_to_pin : (s : CoreState) (F : FramesValue) (S : SpaceValue) (a p handle page n : ℕ) (want : Want) (fast : Bool) → IsSound s → ((f : ℕ) → (F.count f ≡ 0 → ⊥) → IsFrame F f) → ShowsFrames F s → ShowsSpace p S s
+pub ready_to_pin : (s : CoreState) (F : FramesValue) (S : SpaceValue) (a p handle page n : ℕ) (want : Want) (fast : Bool) → IsSound s → HavePaths s.place s.entry s.job → ((f : ℕ) → (F.count f ≡ 0 → ⊥) → IsFrame F f) → ShowsFrames F s → ShowsSpace p S s
     → ((k : ℕ) (t : Taken) → slice_get (s.taken a) k ≡ Some t → bias ≤ s.count t.frame) → ((f : ℕ) → grabbed_frame (s.job a) ≡ Some f → bias ≤ s.count f)
     → StandsPin s a p handle page n want fast (length (s.taken a)) → IsReadyPin F (frames_taken (s.taken a)) (page + length (s.taken a)) n want a (place_in s a) S
-ready_to_pin s F S a p handle page n want fast sound there frames space weighed grabbed stands = go (s.job a) (s.prepared a) refl stands.at
+ready_to_pin s F S a p handle page n want fast sound paths there frames space weighed grabbed stands = go (s.job a) (s.prepared a) refl stands.at
   where
     got : ℕ
     got = length (s.taken a)
@@ -213,6 +229,7 @@ ready_to_pin s F S a p handle page n want fast sound there frames space weighed 
         pinned = sym space.has_pinned ∙ h.4.flag;
         mapped = subst (λ (o : Option Rights). IsSome o) (space.right (page + got)) h.4.moving.mapped;
         absent = sym (space.entry (page + got)) ∙ h.4.moving.absent;
+        path = path_of s S a p (page + got) q g e allowed count paths space h.0 h.1 is;
         there = there e.frame (held_moved s F a q g e allowed count sound frames is);
         held = held_moved s F a q g e allowed count sound frames is;
         marked = sym (frames.mark e.frame) ∙ h.4.marked;
@@ -383,6 +400,7 @@ at_rest m valid is there stand =
     let shown : Shows m r = is.shown.1 in
     let parts : ShowsParts m.parts r.core = shown.parts in
     let h : IsStanding m.script r = standing m r stand valid shown in
+    let paths : HavePaths r.core.place r.core.entry r.core.job = h.entries h.needs in
     record {
       valid = valid;
       parts = is.parts;
@@ -403,10 +421,10 @@ at_rest m valid is there stand =
           subst (λ (k : JobPlace). IsReadyAt (frames_of m.parts.frames) a k (space_of parent) (space_of kid)) (sym (shown.jobs a seat sits))
           (ready_at r.core (frames_of m.parts.frames) (space_of parent) (space_of kid) a (process_of m.script a) child parts.frames
           (parts.spaces (process_of m.script a) parent parent_is) (parts.spaces child kid kid_is)
-          (h.forks a child (op_there m r a seat (Some (Fork child)) shown sits op)) (h.prepared a));
+          (h.forks a child (op_there m r a seat (Some (Fork child)) shown sits op)) (h.prepared a) (h.copies a));
       moves = λ a q page zone seat space sits op space_is.
           subst (λ (k : JobPlace). IsReadyToMove (frames_of m.parts.frames) page k (space_of space)) (sym (shown.jobs a seat sits))
-          (ready_to_move r.core (frames_of m.parts.frames) (space_of space) a q page zone h.sound there parts.frames (parts.spaces q space space_is)
+          (ready_to_move r.core (frames_of m.parts.frames) (space_of space) a q page zone h.sound paths there parts.frames (parts.spaces q space space_is)
           (h.moves a q page zone (op_there m r a seat (Some (Move q page zone)) shown sits op)));
       answered = λ a seat here. subst (λ (k : ℕ). k ≤ length (ops_of m.script a)) (sym (shown.seats a seat here).0) (h.answered a);
       far = λ a seat op here present.
@@ -429,5 +447,5 @@ at_rest m valid is there stand =
           subst (λ (k : JobPlace). IsReadyPin (frames_of m.parts.frames) pages.items (page + length pages.items) n want a k (space_of space)) (sym (shown.jobs a seat sits))
           (subst (λ (k : ℕ). IsReadyPin (frames_of m.parts.frames) pages.items (page + k) n want a (place_in r.core a) (space_of space)) many
           (subst (λ (fs : List ℕ). IsReadyPin (frames_of m.parts.frames) fs (page + length (r.core.taken a)) n want a (place_in r.core a) (space_of space)) frames_are
-          (ready_to_pin r.core (frames_of m.parts.frames) (space_of space) a (process_of m.script a) handle page n want fast h.sound there parts.frames (parts.spaces (process_of m.script a) space space_is) (h.taken_weighed a) (h.grabbed a) at)));
+          (ready_to_pin r.core (frames_of m.parts.frames) (space_of space) a (process_of m.script a) handle page n want fast h.sound paths there parts.frames (parts.spaces (process_of m.script a) space space_is) (h.taken_weighed a) (h.grabbed a) at)));
     }

@@ -34,7 +34,9 @@ use Rattle.gup_op_waits.specs.declared.parts.Parts.{Parts}
 use Rattle.gup_op_waits.specs.declared.seats.Seat.{Seat}
 use Rattle.gup_op_waits.specs.Doers.{IsProcessOf}
 use Rattle.gup_op_waits.specs.Stands.{StandsAt}
-use Rattle.gup_core.specs.Goes.{ShowsAll, StandsWith, TakesMirrors, EndsAt, all_view}
+use Rattle.gup_op_turns.specs.Goes.{ShowsAll, ShowsWhole, StandsWith, TakesMirrors, EndsAt, all_view, whole_view}
+use Rattle.gup_tables.specs.Pool.{PoolParts, pool_of}
+use Rattle.gup_space.specs.Shows.{ShowsPool}
 use Rattle.gup_notify.specs.Mirrors.{Filled, mirrors_of}
 use Rattle.gup_notify.specs.Shows.{ShowsMirrors}
 use Rattle.gup_script.specs.Valid.{IsScript}
@@ -45,17 +47,17 @@ use Rattle.gup_core.specs.Rest.{IsAtRest, op_of_seat}
 use Rattle.gup_op_waits.specs.Seats.{IsSeat, far_behind, seat_behind}
 use Rattle.gup_core.proofs.Notes.{NoTwo, turn_two}
 use Rattle.gup_core.proofs.Resting.{Stand, standing, reached_behind, op_there, stands_at}
-use Rattle.gup_core.proofs.Turning.{IsTurnWith, differ, replaced}
+use Rattle.gup_op_turns.proofs.Turning.{IsTurnWhole, differ, replaced}
 use Rattle.gup_law_turns.proofs.TurnAsOwn.{as_own}
 
 -- What the machine is after a turn t of an actor shows the state after it.
-shows_behind : (m : MachineValue) (parts : Parts) (mirrors : List (Option Filled)) (seats : List Seat) (turns : ℕ) (r : RunState) (a : ℕ) (t : CoreTurn)
-    → core_turn_in m.script r a ≡ t → Shows m r → ShowsParts parts (run r.core t.events) → ShowsMirrors (mirrors_of mirrors) (run r.core t.events)
+shows_behind : (m : MachineValue) (parts : Parts) (mirrors : List (Option Filled)) (seats : List Seat) (pool : PoolParts) (turns : ℕ) (r : RunState) (a : ℕ) (t : CoreTurn)
+    → core_turn_in m.script r a ≡ t → Shows m r → ShowsParts parts (run r.core t.events) → ShowsMirrors (mirrors_of mirrors) (run r.core t.events) → ShowsPool (pool_of pool) (run r.core t.events)
     → ((b : ℕ) (seat : Seat) → slice_get seats b ≡ Some seat → IsSeat (present_op m.script b (places_behind r.places (record { actor = a; whats = t.whats }) b)) (places_behind r.places (record { actor = a; whats = t.whats }) b) seat)
     → ((b : ℕ) (seat : Seat) → slice_get seats b ≡ Some seat → place_of seat.job ≡ place_in (run r.core t.events) b)
     → ((b handle page n : ℕ) (want : Want) (fast : Bool) (seat : Seat) → slice_get seats b ≡ Some seat → present_op m.script b (places_behind r.places (record { actor = a; whats = t.whats }) b) ≡ Some (Pin handle page n want fast) → EndAt (last_page seat.job) ((run r.core t.events).taken b))
-    → Shows (machine_of m.script parts mirrors seats turns) (run_after m.script r a)
-shows_behind m parts mirrors seats turns r a t is h shown slots places jobs ends =
+    → Shows (machine_of m.script parts mirrors seats pool turns) (run_after m.script r a)
+shows_behind m parts mirrors seats pool turns r a t is h shown slots pooled places jobs ends =
     let behind : CoreTurn → RunState =
     λ u. record {
       core = run r.core u.events;
@@ -67,6 +69,7 @@ shows_behind m parts mirrors seats turns r a t is h shown slots places jobs ends
       reached = reached_behind m.script r a h.reached;
       parts = subst (λ (u : CoreTurn). ShowsParts parts (behind u).core) (sym is) shown;
       mirrors = subst (λ (u : CoreTurn). ShowsMirrors (mirrors_of mirrors) (behind u).core) (sym is) slots;
+      pool = subst (λ (u : CoreTurn). ShowsPool (pool_of pool) (behind u).core) (sym is) pooled;
       seats =
           subst (λ (u : CoreTurn). (b : ℕ) (seat : Seat) → slice_get seats b ≡ Some seat → IsSeat (present_op m.script b ((behind u).places b)) ((behind u).places b) seat) (sym is) places;
       jobs = subst (λ (u : CoreTurn). (b : ℕ) (seat : Seat) → slice_get seats b ≡ Some seat → place_of seat.job ≡ place_in (behind u).core b) (sym is) jobs;
@@ -106,9 +109,9 @@ forks_behind s t seats others a seat old same here new stay =
     (λ b x apart found. old b x found ∙ sym (stay b apart))
 
 -- a turn leaves a machine
-pub still_machine : (m n : MachineValue) (a : ℕ) (notes : List NoteValue) → IsMachine m → AreParts n.script n.parts → length n.seats ≡ length n.script.actors → TakesTurns m n a notes → IsMachine n
-still_machine m n a notes was parts seats turns =
-    record { parts = parts; seats = seats; shown = (run_after m.script was.shown.0 a, (turns was.shown.0 was.shown.1).shown) }
+pub still_machine : (m n : MachineValue) (a : ℕ) (notes : List NoteValue) → IsMachine m → AreParts n.script n.parts → length n.seats ≡ length n.script.actors → (pool_of n.pool).tables ≡ n.script.frames.tables → TakesTurns m n a notes → IsMachine n
+still_machine m n a notes was parts seats tables turns =
+    record { parts = parts; seats = seats; tables = tables; shown = (run_after m.script was.shown.0 a, (turns was.shown.0 was.shown.1).shown) }
 
 -- ---- idle, or waiting
 
@@ -123,9 +126,9 @@ same_places script places a what same b = go (b == a) refl
 -- a turn without an event leaves all but its number
 pub stays : (m : MachineValue) (r : RunState) (a : ℕ) (seat : Seat) (turns : ℕ) (what : What) → Shows m r → slice_get m.seats a ≡ Some seat
     → core_turn_in m.script r a ≡ record { events = []; whats = what ∷ [] } → place_behind (r.places a) (what ∷ []) ≡ r.places a
-    → Shows (machine_of m.script m.parts m.mirrors m.seats turns) (run_after m.script r a)
+    → Shows (machine_of m.script m.parts m.mirrors m.seats m.pool turns) (run_after m.script r a)
 stays m r a seat turns what h here is same =
-    shows_behind m m.parts m.mirrors m.seats turns r a (record { events = []; whats = what ∷ [] }) is h h.parts h.mirrors
+    shows_behind m m.parts m.mirrors m.seats m.pool turns r a (record { events = []; whats = what ∷ [] }) is h h.parts h.mirrors h.pool
     (seats_behind m.script r.places m.seats m.seats a (record { actor = a; whats = what ∷ [] }) seat refl h.seats (λ b apart. refl) here
     (subst (λ (x : Place). IsSeat (present_op m.script a x) x seat) (sym same) (h.seats a seat here)))
     h.jobs (λ b handle page n want fast s found now. h.ends b handle page n want fast s found (sym (ap (present_op m.script b) (same_places m.script r.places a what same b)) ∙ now))
@@ -139,7 +142,7 @@ says_so m r a seat turns t whats h here count is says =
     ∙ ap (λ (u : CoreTurn). notes_of_turn (counted m.turns) a ((r.places a).answered + 1) u.whats) (sym is)
 
 pub idles : (m : MachineValue) (a : ℕ) (seat : Seat) (turns : ℕ) → slice_get m.seats a ≡ Some seat → op_of_seat m a seat ≡ None → turns ≡ counted m.turns
-    → TakesTurns m (machine_of m.script m.parts m.mirrors m.seats turns) a (notes_of_turn turns a (seat.answered + 1) (Idle ∷ []))
+    → TakesTurns m (machine_of m.script m.parts m.mirrors m.seats m.pool turns) a (notes_of_turn turns a (seat.answered + 1) (Idle ∷ []))
 idles m a seat turns here none count r h =
     let is : core_turn_in m.script r a ≡ record { events = []; whats = Idle ∷ [] } =
     ap (λ o. core_turn_by r.core (doer_of m.script a o) (r.places a).far o (waiting_in m.script r a)) (op_there m r a seat None h here none) in
@@ -167,7 +170,7 @@ waiting_is m a proc seat op waiting stand rest of_a here present is r h =
 
 pub waits : (m : MachineValue) (a : ℕ) (seat : Seat) (op : Op) (turns : ℕ) (waiting : Waiting) → slice_get m.seats a ≡ Some seat → op_of_seat m a seat ≡ Some op → turns ≡ counted m.turns
     → ((r : RunState) → Shows m r → Some waiting ≡ waiting_in m.script r a)
-    → TakesTurns m (machine_of m.script m.parts m.mirrors m.seats turns) a (notes_of_turn turns a (seat.answered + 1) (Wait waiting ∷ []))
+    → TakesTurns m (machine_of m.script m.parts m.mirrors m.seats m.pool turns) a (notes_of_turn turns a (seat.answered + 1) (Wait waiting ∷ []))
 waits m a seat op turns waiting here present count waiting_so r h =
     let is : core_turn_in m.script r a ≡ record { events = []; whats = Wait waiting ∷ [] } =
     ap (λ o. core_turn_by r.core (doer_of m.script a o) (r.places a).far o (waiting_in m.script r a)) (op_there m r a seat (Some op) h here present)
@@ -258,7 +261,7 @@ ends_behind script places s t seats others a whats seat old same here new stay b
         subst (EndAt (last_page x.job)) (sym (stay b apart)) (old b handle page n want fast x (sym (same b apart) ∙ found) is)
 
 -- the turn is that of the operation, or its refusal
-taken_is : (m : MachineValue) (r : RunState) (a : ℕ) (op : Op) → op_in m.script r a ≡ Some op → waiting_in m.script r a ≡ None → core_turn_in m.script r a ≡ turn_of r.core (doer_of m.script a (Some op)) (r.places a).far op
+pub taken_is : (m : MachineValue) (r : RunState) (a : ℕ) (op : Op) → op_in m.script r a ≡ Some op → waiting_in m.script r a ≡ None → core_turn_in m.script r a ≡ turn_of r.core (doer_of m.script a (Some op)) (r.places a).far op
 taken_is m r a op is none =
     ap (λ o. core_turn_by r.core (doer_of m.script a o) (r.places a).far o (waiting_in m.script r a)) is
     ∙ ap (λ w. core_turn_by r.core (doer_of m.script a (Some op)) (r.places a).far (Some op) w) none
@@ -272,29 +275,48 @@ empties_at : (m : MachineValue) (r : RunState) (a : ℕ) → Empties → IsScrip
 empties_at m r a empties valid h =
     subst (λ (x : RunState). EmptiesSlots x.core (op_in m.script x a) (core_turn_in m.script x a)) (sym h.reached.1) (empties m.script h.reached.0 a valid)
 
-pub goes : (m : MachineValue) (a : ℕ) (proc : Option ℕ) (seat next : Seat) (op : Op) (parts : Parts) (mirrors : List (Option Filled)) (seats : List Seat) (turns : ℕ) (said : Said) (job : JobPlace)
+-- the state before the turn has all that the machine has of it
+pub shows_whole : (m : MachineValue) (r : RunState) (a : ℕ) (seat : Seat) (op : Op) → Shows m r → slice_get m.seats a ≡ Some seat → op_in m.script r a ≡ Some op
+    → ShowsWhole a op (whole_view (all_view m.parts seat.job (place_in r.core) r.core.taken) (pool_of m.pool)) r.core
+shows_whole m r a seat op h here op_is =
+    record {
+      all = record { parts = h.parts; job = h.jobs a seat here; ends = ends_now op r.core.taken (λ handle page n want fast same. h.ends a handle page n want fast seat here (op_is ∙ ap (λ (o : Op). Some o) same)); others = λ b apart. refl; left = λ b apart. refl };
+      pool = h.pool;
+    }
+  where
+    ends_now : (o : Op) (taken : ℕ → List Taken) → ((handle page n : ℕ) (want : Want) (fast : Bool) → o ≡ Pin handle page n want fast → EndAt (last_page seat.job) (taken a)) → EndsAt o seat.job (taken a)
+    ends_now (Pin handle page n want fast) taken all = all handle page n want fast refl
+    ends_now o taken all = tt
+
+-- and the actor stands there before its turn, and waits for nothing
+pub stands_with : (m : MachineValue) (r : RunState) (a : ℕ) (op : Op) → IsStanding m.script r → Shows m r → op_in m.script r a ≡ Some op → None ≡ waiting_in m.script r a
+    → StandsWith (mirrors_of m.mirrors) a (doer_of m.script a (Some op)) (r.places a).far op r.core
+stands_with m r a op stands h op_is ready =
+    let far : ℕ = (r.places a).far in
+    let free : waiting_for r.core (doer_of m.script a (Some op)) far op ≡ None = ap (λ o. waiting_with r.core (doer_of m.script a o) far o) (sym op_is) ∙ sym ready in
+    record { free = record { sound = stands.sound; at = stands_at m.script r a op stands op_is; free = free }; slots = h.mirrors }
+
+pub goes : (m : MachineValue) (a : ℕ) (proc : Option ℕ) (seat next : Seat) (op : Op) (parts : Parts) (mirrors : List (Option Filled)) (seats : List Seat) (pool : PoolParts) (turns : ℕ) (said : Said) (job : JobPlace)
     → Stand → Empties → IsAtRest m → IsProcessOf (doer_of m.script a (Some op)) proc → slice_get m.seats a ≡ Some seat → op_of_seat m a seat ≡ Some op → turns ≡ counted m.turns
     → ((r : RunState) → Shows m r → None ≡ waiting_in m.script r a)
     → next ≡ seat_behind seat op (is_some said.answer) job → slice_get seats a ≡ Some next → ((b : ℕ) → (b ≡ a → ⊥) → slice_get seats b ≡ slice_get m.seats b)
-    → IsTurnWith (mirrors_of m.mirrors) m.parts parts a proc seat.far op seat.job (whats_of said) job
-    → TakesMirrors m.parts a proc seat.far op seat.job (mirrors_of m.mirrors) (mirrors_of mirrors)
-    → TakesTurns m (machine_of m.script parts mirrors seats turns) a (notes_of_turn turns a (seat.answered + 1) (whats_of said))
-goes m a proc seat next op parts mirrors seats turns said job stand empties rest of_a here present count ready next_is seated unseated turn slots r h =
+    → IsTurnWhole (mirrors_of m.mirrors) m.parts parts (pool_of m.pool) (pool_of pool) a proc seat.far op seat.job (whats_of said) job
+    → TakesMirrors m.parts (pool_of m.pool) a proc seat.far op seat.job (mirrors_of m.mirrors) (mirrors_of mirrors)
+    → TakesTurns m (machine_of m.script parts mirrors seats pool turns) a (notes_of_turn turns a (seat.answered + 1) (whats_of said))
+goes m a proc seat next op parts mirrors seats pool turns said job stand empties rest of_a here present count ready next_is seated unseated turn slots r h =
     let far : ℕ = (r.places a).far in
     let who : Doer = doer_of m.script a (Some op) in
     let stands : IsStanding m.script r = standing m r stand rest.valid h in
     let op_is : op_in m.script r a ≡ Some op = op_there m r a seat (Some op) h here present in
     let at : IsSeat (Some op) (r.places a) seat = subst (λ (o : Option Op). IsSeat o (r.places a) seat) op_is (h.seats a seat here) in
-    let free : waiting_for r.core who far op ≡ None = ap (λ o. waiting_with r.core (doer_of m.script a o) far o) (sym op_is) ∙ sym (ready r h) in
     let t : CoreTurn = turn_of r.core who far op in
     let is : core_turn_in m.script r a ≡ t = taken_is m r a op op_is (sym (ready r h)) in
     let forks = place_in r.core in
-    let shown : ShowsAll a op (all_view m.parts seat.job forks r.core.taken) r.core =
-    record { parts = h.parts; job = h.jobs a seat here; ends = ends_now op r.core.taken (λ handle page n want fast same. h.ends a handle page n want fast seat here (op_is ∙ ap (λ (o : Op). Some o) same)); others = λ b apart. refl; left = λ b apart. refl } in
-    let stands_with : StandsWith (mirrors_of m.mirrors) a who far op r.core =
-    record { free = record { sound = stands.sound; at = stands_at m.script r a op stands op_is; free = free }; slots = h.mirrors } in
-    let led : Leads (ShowsAll a op) (all_view parts job forks r.core.taken) r.core t (whats_of said) =
-    turn who far forks r.core.taken refl of_a (rest.parts.slots a) at.1 r.core shown stands_with in
+    let shown = shows_whole m r a seat op h here op_is in
+    let free = stands_with m r a op stands h op_is (ready r h) in
+    let led : Leads (ShowsWhole a op) (whole_view (all_view parts job forks r.core.taken) (pool_of pool)) r.core t (whats_of said) =
+    turn who far forks r.core.taken refl of_a (rest.parts.slots a) at.1 r.core shown free in
+    let after : ShowsAll a op (all_view parts job forks r.core.taken) (run r.core t.events) = led.shown.all in
     let emptied : EmptiesSlots r.core (Some op) t =
     subst (EmptiesSlots r.core (Some op)) is (subst (λ (o : Option Op). EmptiesSlots r.core o (core_turn_in m.script r a)) op_is (empties_at m r a empties rest.valid h)) in
     let seated_so : slice_get seats a ≡ Some (seat_behind seat op (is_some said.answer) job) = seated ∙ ap (λ (s : Seat). Some s) next_is in
@@ -309,30 +331,26 @@ goes m a proc seat next op parts mirrors seats turns said job stand empties rest
     record {
       said = says_so m r a seat turns t (whats_of said) h here count is led.says;
       shown =
-          shows_behind m parts mirrors seats turns r a t is h led.shown.parts (slots r.core who far forks r.core.taken refl of_a at.1 shown stands_with emptied)
+          shows_behind m parts mirrors seats pool turns r a t is h after.parts (slots r.core who far forks r.core.taken refl of_a at.1 shown free emptied) led.shown.pool
           (seats_behind m.script r.places m.seats seats a (record { actor = a; whats = t.whats }) (seat_behind seat op (is_some said.answer) job) refl h.seats unseated seated_so
           (subst (λ (ws : List What). IsSeat (present_op m.script a (place_behind (r.places a) ws)) (place_behind (r.places a) ws) (seat_behind seat op (is_some said.answer) job)) (sym led.says)
           (seat_next m.script a (r.places a) seat op job said.event said.next said.answer op_is at two)))
           (forks_behind r.core (run r.core t.events) m.seats seats a (seat_behind seat op (is_some said.answer) job) h.jobs unseated seated_so
-          (ap place_of (job_of_seat seat op (is_some said.answer) job) ∙ led.shown.job) led.shown.others)
+          (ap place_of (job_of_seat seat op (is_some said.answer) job) ∙ after.job) after.others)
           (ends_behind m.script r.places r.core (run r.core t.events) m.seats seats a t.whats (seat_behind seat op (is_some said.answer) job) h.ends unseated seated_so
           (subst (λ (ws : List What). (handle page n : ℕ) (want : Want) (fast : Bool) → present_op m.script a (place_behind (r.places a) ws) ≡ Some (Pin handle page n want fast) → EndAt (last_page (seat_behind seat op (is_some said.answer) job).job) ((run r.core t.events).taken a)) (sym led.says)
           (λ handle page n want fast now.
           subst (λ (j : JobPlace). EndAt (last_page j) ((run r.core t.events).taken a)) (sym (job_of_seat seat op (is_some said.answer) job))
           (elim (same_or_first m.script a (r.places a) said.event said.next said.answer) [
-            | inl same ↦ ends_then op job ((run r.core t.events).taken a) handle page n want fast (some_op (sym op_is ∙ sym same ∙ now)) led.shown.ends
-            | inr first ↦ none_left job ((run r.core t.events).taken a) (led.shown.job ∙ rests_then first)
+            | inl same ↦ ends_then op job ((run r.core t.events).taken a) handle page n want fast (some_op (sym op_is ∙ sym same ∙ now)) after.ends
+            | inr first ↦ none_left job ((run r.core t.events).taken a) (after.job ∙ rests_then first)
           ])))
-          led.shown.left);
+          after.left);
       counts = count;
     }
   where
     some_op : {o x : Op} → Some o ≡ Some x → o ≡ x
     some_op e = cc
-
-    ends_now : (o : Op) (taken : ℕ → List Taken) → ((handle page n : ℕ) (want : Want) (fast : Bool) → o ≡ Pin handle page n want fast → EndAt (last_page seat.job) (taken a)) → EndsAt o seat.job (taken a)
-    ends_now (Pin handle page n want fast) taken all = all handle page n want fast refl
-    ends_now o taken all = tt
 
     ends_then : (o : Op) (j : JobPlace) (taken : List Taken) (handle page n : ℕ) (want : Want) (fast : Bool) → o ≡ Pin handle page n want fast → EndsAt o j taken → EndAt (last_page j) taken
     ends_then o j taken handle page n want fast same ends = subst (λ (x : Op). EndsAt x j taken) same ends

@@ -17,16 +17,16 @@ use Rattle.gup_op_waits.specs.declared.births.Birth.{Birth}
 use Rattle.gup_op_waits.specs.declared.births.Birth.TheVariants.{Born}
 use Rattle.gup_op_waits.proofs.Waits.{thread_waits}
 use Rattle.gup_spec_turns.specs.Run.{RunState, waiting_in}
-use Rattle.gup_core.specs.Copies.{IsCopyAt}
-use Rattle.gup_core.specs.Goes.{IsReady}
+use Rattle.gup_op_turns.specs.Copies.{IsCopyAt}
+use Rattle.gup_op_turns.specs.Goes.{IsReady}
 use Rattle.gup_core.specs.Machine.{MachineValue, Shows, IsMachine}
 use Rattle.gup_core.specs.Rest.{IsAtRest, op_of_seat}
 use Rattle.gup_op_waits.specs.declared.seats.Seat.{Seat}
 use Rattle.gup_core.proofs.Ready.{is_ready}
 use Rattle.gup_core.proofs.Resting.{Stand}
-use Rattle.gup_core.proofs.Singles.{process_is}
+use Rattle.gup_op_turns.proofs.Singles.{process_is}
 use Rattle.gup_core.proofs.Taking.{waiting_is}
-use Rattle.gup_core.specs.declared.copies.WordCopy.{WordCopy}
+use Rattle.gup_op_turns.specs.declared.copies.WordCopy.{WordCopy}
 
 -- a fork that copies words needs no lock
 needs_none : (right : ℕ → Option Rights) (job : Job) (prepared : Option ℕ) (page word to : ℕ) → at_word page word to ≡ job_place job prepared → fork_locks right job ≡ no_lock

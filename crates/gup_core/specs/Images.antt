@@ -6,7 +6,7 @@ use Rattle.gup_core.specs.Machine.{MachineValue, IsMachine}
 
 -- What an image is made of: all but the script and how many turns are over.
 abbrev pub imaged : MachineValue → Imaged
-imaged m = record { parts = m.parts; mirrors = m.mirrors; seats = m.seats }
+imaged m = record { parts = m.parts; mirrors = m.mirrors; seats = m.seats; pool = m.pool }
 
 -- the facts are the image of a machine, past which there is nothing
 pub record IsImage (m : MachineValue) (facts : List Fact) : Type 0 where

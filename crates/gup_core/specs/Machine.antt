@@ -14,23 +14,26 @@ use Rattle.gup_script.specs.declared.op.Op.TheVariants.{Pin}
 use Rattle.gup_op_base.specs.Jobs.{place_of}
 use Rattle.gup_op_pins.specs.Pins.{EndAt, last_page}
 use Rattle.gup_op_waits.specs.declared.parts.Parts.{Parts}
+use Rattle.gup_tables.specs.Pool.{PoolParts, pool_of}
+use Rattle.gup_space.specs.Shows.{ShowsPool}
 use Rattle.gup_op_waits.specs.declared.seats.Seat.{Seat}
 use Rattle.gup_op_waits.specs.Seats.{IsSeat}
 use Rattle.gup_op_waits.specs.Parts.{ShowsParts, AreParts}
 use Rattle.gup_notify.specs.Mirrors.{Filled, mirrors_of}
 use Rattle.gup_notify.specs.Shows.{ShowsMirrors}
 
--- A machine: its script, the parts of it, the mirror slots, the actors' seats, and how many turns are over.
+-- A machine: its script, the parts of it, the mirror slots, the actors' seats, the pool of page tables, and how many turns are over.
 pub record MachineValue : Type 0 where
   pub script : ScriptValue
   pub parts : Parts
   pub mirrors : List (Option Filled)
   pub seats : List Seat
+  pub pool : PoolParts
   pub turns : ℕ
 
-abbrev pub machine_of : ScriptValue → Parts → (mirrors : List (Option Filled)) → List Seat → (turns : ℕ) → MachineValue
-machine_of script parts mirrors seats turns =
-    record { script = script; parts = parts; mirrors = mirrors; seats = seats; turns = turns }
+abbrev pub machine_of : ScriptValue → Parts → (mirrors : List (Option Filled)) → List Seat → (pool : PoolParts) → (turns : ℕ) → MachineValue
+machine_of script parts mirrors seats pool turns =
+    record { script = script; parts = parts; mirrors = mirrors; seats = seats; pool = pool; turns = turns }
 
 -- the number of a turn stays at the last value of 32 bits
 abbrev pub counted : ℕ → ℕ
@@ -52,6 +55,7 @@ pub record Shows (m : MachineValue) (r : RunState) : Type 0 where
   pub reached : IsReached m.script r
   pub parts : ShowsParts m.parts r.core
   pub mirrors : ShowsMirrors (mirrors_of m.mirrors) r.core
+  pub pool : ShowsPool (pool_of m.pool) r.core
   pub seats : (a : ℕ) (seat : Seat) → slice_get m.seats a ≡ Some seat → IsSeat (present_op m.script a (r.places a)) (r.places a) seat
   pub jobs : (a : ℕ) (seat : Seat) → slice_get m.seats a ≡ Some seat → place_of seat.job ≡ place_in r.core a
   pub ends : (a handle page n : ℕ) (want : Want) (fast : Bool) (seat : Seat) → slice_get m.seats a ≡ Some seat → present_op m.script a (r.places a) ≡ Some (Pin handle page n want fast) → EndAt (last_page seat.job) (r.core.taken a)
@@ -67,10 +71,11 @@ pub record TakesTurn (old new : MachineValue) (actor : ℕ) (r : RunState) (note
 abbrev pub TakesTurns : (old new : MachineValue) → (actor : ℕ) → List NoteValue → Type 0
 TakesTurns old new actor notes = (r : RunState) → Shows old r → TakesTurn old new actor r notes
 
--- What a machine is between two turns: it has its parts and a seat for each actor, and shows a state.
+-- What a machine is between two turns: it has its parts, a seat for each actor and the script's page tables, and shows a state.
 pub record IsMachine (m : MachineValue) : Type 0 where
   pub parts : AreParts m.script m.parts
   pub seats : length m.seats ≡ length m.script.actors
+  pub tables : (pool_of m.pool).tables ≡ m.script.frames.tables
   pub shown : (r : RunState) × Shows m r
 
 -- a machine that has taken no turn

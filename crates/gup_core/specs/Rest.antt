@@ -43,11 +43,12 @@ IsReadyPin frames taken page n want a (moving_page g e count) space = (g ≡ pag
 IsReadyPin frames taken page n want a (in_walk sequence step) space = IsAtStep page n (length taken) step × IsReadyToWalk frames taken step
 IsReadyPin frames taken page n want a place space = ⊥
 
--- Its script is one, and it has its parts and a seat for each actor. Each process is tidy; counts and sequences are small, and so
--- are the walks that run in a process, of which each actor's walk is one. An actor that does no fork and no move holds no lock, what
--- a fork has counted it can share or copy, a page that a move has cleared is mapped, and what a pin has taken are its first pages. No
--- actor has answered more operations than it has, and one that goes over pages or words stands at one of them, a pin at one of its
--- turns. Pins have the weight of their pages and references that of theirs, and no handle is made before its operation. The frame of a
+-- Its script is one, and it has its parts and a seat for each actor. Each process is tidy; counts and sequences are small, and
+-- so are the walks that run in a process, of which each actor's walk is one. An actor that does no fork and no move holds no
+-- lock, what a fork has counted it can share or copy, a page that a move has cleared is mapped and lacks no page table, as the
+-- child of a fork lacks none for a page that is copied, and what a pin has taken are its first pages. No actor has answered
+-- more operations than it has, and one that goes over pages or words stands at one of them, a pin at one of its turns. Pins
+-- have the weight of their pages and references that of theirs, and no handle is made before its operation. The frame of a
 -- filled mirror slot is there.
 pub record IsAtRest (m : MachineValue) : Type 0 where
   pub valid : IsScript m.script

@@ -3,32 +3,32 @@ ghost use Rattle.std.specs.Prelude.{◌≡◌, ℕ, ◌+◌, ◌<◌, ◌≤◌,
 ghost use Rattle.gup_space.specs.Space.{space_of};
 ghost use Rattle.gup_space.specs.Shows.{ShowsSpace};
 ghost use Rattle.gup_spec_journal.specs.Place.{has_finished};
+ghost use Rattle.gup_spec_events.specs.Growth.{free_tables};
 ghost use Rattle.gup_spec_turns.specs.Run.{RunState, waiting_in};
 ghost use Rattle.gup_core.specs.Machine.{Shows, IsNew, counted, free_frames_in};
 ghost use Rattle.gup_core.specs.declared.outcome.Advanced.TheVariants.{Moved};
 ghost use Rattle.gup_core.specs.declared.outcome.Woken.TheVariants.{Nobody};
 ghost use Rattle.gup_op_waits.specs.declared.seats.Seat.{Seat as SeatValue};
-ghost use Rattle.gup_core.specs.Copies.{is_copying};
+ghost use Rattle.gup_op_turns.specs.Copies.{is_copying};
 ghost use Rattle.gup_core.specs.Going.{Advances, WritesTurn, HasMore, IsMoved, IsStill, KeepsRoom};
 ghost use Rattle.gup_core.specs.Rest.{IsAtRest};
 ghost use Rattle.gup_image.specs.declared.fact.Fact.{Fact as FactValue};
 ghost use Rattle.gup_law_image.specs.Alike.{image_in};
 ghost use Rattle.gup_core.specs.Images.{IsImage, imaged};
 
-use crate::copies::{copy_at, seat_after, take_copy};
 use crate::outcome::{Advanced, Woken, woken_by};
-use crate::slots::take_turn;
-use crate::takes::waits_at;
 use crate::turns::{next_turn, op_at, ops, process};
 use gup_base::{ActorNo, NoMemory, ProcNo, Zone};
 use gup_image::{KeptFact, image, is_whole};
 use gup_notify::Mirrors;
 use gup_op_base::{Head, JobPlace};
+use gup_op_turns::{copy_at, seat_after, take_copy, take_turn, waits_at};
 use gup_op_waits::parts::{self, Parts};
 use gup_op_waits::seats::{self, Seat, seat_of, set_seat};
 use gup_plain::{Journal, Waiting, What};
 use gup_script::Script;
 use gup_space::Space;
+use gup_tables::Pool;
 use std::alloc::Global;
 use std::marker::Model;
 
@@ -39,6 +39,7 @@ pub(crate) struct Inner {
     parts: Parts,
     mirrors: Mirrors,
     seats: Vec<Seat>,
+    pool: Pool,
     turns: u32,
 }
 
@@ -52,6 +53,7 @@ impl Model for Inner {
       parts = m.parts;
       mirrors = m.mirrors;
       seats = m.seats.items;
+      pool = m.pool;
       turns = m.turns;
     } };
 
@@ -60,6 +62,7 @@ impl Model for Inner {
       parts = m.parts;
       mirrors = m.mirrors;
       seats = m.seats.items;
+      pool = m.pool;
       turns = m.turns;
     }) };
 }
@@ -72,11 +75,14 @@ impl Inner {
         let parts = parts::first(alloc, &script)?;
         let mirrors = Mirrors::new(alloc)?;
         let seats = seats::first(alloc, script.actors())?;
+        let (_movable, _normal, tables) = script.frames();
+        let pool = Pool::new(alloc, tables)?;
         Ok(Inner {
             script,
             parts,
             mirrors,
             seats,
+            pool,
             turns: 0,
         })
     }
@@ -168,6 +174,7 @@ impl Inner {
     {
         self.rests();
         gup_law_turns::reached_states_stand();
+        gup_law_turns::turns_can_happen();
         gup_law_turns::turns_empty_slots();
         let seat = self.seat(actor);
         let Some(op) = op_at(ops(&self.script, actor), seat.answered) else {
@@ -193,6 +200,7 @@ impl Inner {
         let over = take_turn(
             &mut self.parts,
             &mut self.mirrors,
+            &mut self.pool,
             journal,
             &head,
             proc,
@@ -284,20 +292,28 @@ impl Inner {
         self.parts.frames.free(zone)
     }
 
+    pub(crate) fn free_tables(&self) -> u32
+        ensures { (r : RunState) → Shows self.now r → result ≡ free_tables r.core }
+    {
+        self.pool.is_within();
+        self.pool.free()
+    }
+
     pub(crate) fn image(&self, alloc: Global) -> Result<Vec<KeptFact>, NoMemory>
         ensures { IfOk result (λ facts. IsImage self.now facts.items) }
     {
         self.has_image();
         self.rests();
         let _actors = self.script.actors();
-        image(alloc, &self.parts, &self.mirrors, &self.seats)
+        image(alloc, &self.parts, &self.mirrors, &self.seats, &self.pool)
     }
 
     pub(crate) fn has_image(&self)
         ensures { (facts : List FactValue) → facts ≡ image_in (imaged self.now) → IsImage self.now facts }
     {
         self.rests();
-        is_whole(&self.parts, &self.mirrors);
+        gup_law_turns::reached_states_stand();
+        is_whole(&self.parts, &self.mirrors, &self.pool);
     }
 
     // Where the actor stands.

@@ -1,12 +1,9 @@
 //! The machine: it takes the turns of a script's core run, with no more memory than it had at the start.
 #![tactic(auto)]
 
-mod copies;
 mod inner;
 mod machine;
 mod outcome;
-mod slots;
-mod takes;
 mod turn;
 mod turns;
 

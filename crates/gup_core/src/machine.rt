@@ -2,6 +2,7 @@
 ghost use Rattle.std.specs.Prelude.{◌≡◌, ℕ, ◌<◌, List, [], length, IfOk, OnOk, OnErr};
 ghost use Rattle.gup_space.specs.Space.{space_of};
 ghost use Rattle.gup_space.specs.Shows.{ShowsSpace};
+ghost use Rattle.gup_spec_events.specs.Growth.{free_tables};
 ghost use Rattle.gup_spec_journal.specs.Place.{has_finished};
 ghost use Rattle.gup_spec_turns.specs.Run.{RunState, waiting_in};
 ghost use Rattle.gup_core.specs.Machine.{MachineValue, Shows, TakesTurns, IsNew, free_frames_in};
@@ -151,7 +152,7 @@ impl Machine {
         self.inner.has_image();
     }
 
-    /// The declared process, with its mappings, entries, locks and walks, as the states have it that the machine shows.
+    /// The declared process, with its mappings, page tables, entries, locks and walks, as the states that the machine shows have it.
     pub fn space(&self, proc: ProcNo) -> &Space
         requires { proc < length self.now.script.processes }
         ensures { (r : RunState) → Shows self.now r → ShowsSpace proc (space_of result.now) r.core }
@@ -164,6 +165,14 @@ impl Machine {
         ensures { (r : RunState) → Shows self.now r → result ≡ free_frames_in r.core zone }
     {
         self.inner.free_frames(zone)
+    }
+
+    /// How many page tables are free. One that a process has taken out is not, while a lockless walk of the process that may be
+    /// inside of it keeps it back.
+    pub fn free_tables(&self) -> u32
+        ensures { (r : RunState) → Shows self.now r → result ≡ free_tables r.core }
+    {
+        self.inner.free_tables()
     }
 }
 

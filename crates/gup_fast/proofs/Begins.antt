@@ -25,7 +25,7 @@ begins F S S' w w' fresh none walk space s a p old_frames old_space old_walk =
       record { movable = old_frames.movable; normal = old_frames.normal; count = old_frames.count; mark = old_frames.mark; word = old_frames.word; needs_tables = old_frames.needs_tables },
       subst (λ (n : ℕ). ShowsSpace p (record S' { walks = n }) after) (sym counted)
           (subst (λ (x : SpaceValue). ShowsSpace p (record x { walks = S.walks + 1 }) after) (sym space)
-          (record { right = old_space.right; pages = old_space.pages; entry = old_space.entry; sequence = old_space.sequence; has_pinned = own p true s.has_pinned; structure = old_space.structure; table = old_space.table; walks = own p (s.walks p + 1) s.walks ∙ ap (λ (n : ℕ). n + 1) old_space.walks })),
+          (record { right = old_space.right; pages = old_space.pages; entry = old_space.entry; sequence = old_space.sequence; has_pinned = own p true s.has_pinned; structure = old_space.structure; table = old_space.table; walks = own p (s.walks p + 1) s.walks ∙ ap (λ (n : ℕ). n + 1) old_space.walks; place = old_space.place; retired = old_space.retired })),
       subst (λ (x : WalkValue). ShowsWalk a p x after) (sym walk)
           (record { job = rw none (own a _ s.job); taken = old_walk.taken }),
     )

@@ -58,7 +58,7 @@ last_goes F S w s a p (t ∷ taken) some frames space =
     (rw parts.frame
     (rw parts.frames (
       record { movable = dropped.movable; normal = dropped.normal; count = dropped.count; mark = dropped.mark; word = dropped.word; needs_tables = dropped.needs_tables },
-      record { right = space.right; pages = space.pages; entry = space.entry; sequence = space.sequence; has_pinned = space.has_pinned; structure = space.structure; table = space.table; walks = space.walks },
+      record { right = space.right; pages = space.pages; entry = space.entry; sequence = space.sequence; has_pinned = space.has_pinned; structure = space.structure; table = space.table; walks = space.walks; place = space.place; retired = space.retired },
       record { job = own a _ s.job; taken = ap taken_frames (own a parts.others s.taken) },
     )))
 
@@ -71,7 +71,7 @@ first_goes F S w s a p [] some frames space = absurd (omega (arith, some))
 first_goes F S w s a p (t ∷ []) some frames space =
     let dropped : ShowsFrames (without_references t.frame 1024 F) (core_without t.frame 1024 s) = without_pin F s t.frame frames in (
       record { movable = dropped.movable; normal = dropped.normal; count = dropped.count; mark = dropped.mark; word = dropped.word; needs_tables = dropped.needs_tables },
-      record { right = space.right; pages = space.pages; entry = space.entry; sequence = space.sequence; has_pinned = space.has_pinned; structure = space.structure; table = space.table; walks = own p (s.walks p - 1) s.walks ∙ ap (λ (n : ℕ). n - 1) space.walks },
+      record { right = space.right; pages = space.pages; entry = space.entry; sequence = space.sequence; has_pinned = space.has_pinned; structure = space.structure; table = space.table; walks = own p (s.walks p - 1) s.walks ∙ ap (λ (n : ℕ). n - 1) space.walks; place = space.place; retired = space.retired },
       record {
         job = own a idle (happens s (drop_first a p w.want.write w.want.long w.sequence t [])).job;
         taken = ap taken_frames (own a [] s.taken);
@@ -80,7 +80,7 @@ first_goes F S w s a p (t ∷ []) some frames space =
 first_goes F S w s a p (t ∷ u ∷ taken) some frames space =
     let dropped : ShowsFrames (without_references t.frame 1024 F) (core_without t.frame 1024 s) = without_pin F s t.frame frames in (
       record { movable = dropped.movable; normal = dropped.normal; count = dropped.count; mark = dropped.mark; word = dropped.word; needs_tables = dropped.needs_tables },
-      record { right = space.right; pages = space.pages; entry = space.entry; sequence = space.sequence; has_pinned = space.has_pinned; structure = space.structure; table = space.table; walks = space.walks },
+      record { right = space.right; pages = space.pages; entry = space.entry; sequence = space.sequence; has_pinned = space.has_pinned; structure = space.structure; table = space.table; walks = space.walks; place = space.place; retired = space.retired },
       record { job = own a _ s.job; taken = ap taken_frames (own a (u ∷ taken) s.taken) },
     )
 
@@ -88,7 +88,7 @@ first_goes F S w s a p (t ∷ u ∷ taken) some frames space =
 
 as_it_is : (p : ℕ) (S : SpaceValue) (s : CoreState) → ShowsSpace p S s → ShowsSpace p (record S { walks = S.walks }) s
 as_it_is p S s h =
-    record { right = h.right; pages = h.pages; entry = h.entry; sequence = h.sequence; has_pinned = h.has_pinned; structure = h.structure; table = h.table; walks = h.walks }
+    record { right = h.right; pages = h.pages; entry = h.entry; sequence = h.sequence; has_pinned = h.has_pinned; structure = h.structure; table = h.table; walks = h.walks; place = h.place; retired = h.retired }
 
 -- what a drop leads to, at a stage and with the frames of the pages taken
 abbrev Leads : (F : FramesValue) (S : SpaceValue) (w : WalkValue) (s : CoreState) (a p : ℕ) → Stage → List ℕ → Type 0
@@ -110,7 +110,7 @@ leads F S w s a p (at over) taken fits is job frames space = (frames, as_it_is p
 leads F S w s a p (at (differed f)) taken fits is job frames space =
     let dropped : ShowsFrames (without_references f 1024 F) (core_without f 1024 s) = without_pin F s f frames in (
       record { movable = dropped.movable; normal = dropped.normal; count = dropped.count; mark = dropped.mark; word = dropped.word; needs_tables = dropped.needs_tables },
-      record { right = space.right; pages = space.pages; entry = space.entry; sequence = space.sequence; has_pinned = space.has_pinned; structure = space.structure; table = space.table; walks = space.walks },
+      record { right = space.right; pages = space.pages; entry = space.entry; sequence = space.sequence; has_pinned = space.has_pinned; structure = space.structure; table = space.table; walks = space.walks; place = space.place; retired = space.retired },
       record { job = own a _ s.job; taken = is },
     )
 leads F S w s a p (at refused) taken fits is job frames space =

@@ -95,13 +95,13 @@ through a p part each s (e ∷ es) all = through a p part each (happens s e) es 
 
 leaves_other : (a p q : ℕ) (space : SpaceValue) (s : CoreState) {e : CoreEvent} → (p ≡ q → ⊥) → IsWalking a p e → ShowsSpace q space s → ShowsSpace q space (happens s e)
 leaves_other a p q space s other flagging h =
-    record { right = h.right; pages = h.pages; entry = h.entry; sequence = h.sequence; has_pinned = grind (arith, nat_tests, h.has_pinned); structure = h.structure; table = h.table; walks = h.walks }
+    record { right = h.right; pages = h.pages; entry = h.entry; sequence = h.sequence; has_pinned = grind (arith, nat_tests, h.has_pinned); structure = h.structure; table = h.table; walks = h.walks; place = h.place; retired = h.retired }
 leaves_other a p q space s other (entering write long) h =
-    record { right = h.right; pages = h.pages; entry = h.entry; sequence = h.sequence; has_pinned = h.has_pinned; structure = h.structure; table = h.table; walks = grind (arith, nat_tests, h.walks) }
+    record { right = h.right; pages = h.pages; entry = h.entry; sequence = h.sequence; has_pinned = h.has_pinned; structure = h.structure; table = h.table; walks = grind (arith, nat_tests, h.walks); place = h.place; retired = h.retired }
 leaves_other a p q space s other (leaving write long sequence) h =
-    record { right = h.right; pages = h.pages; entry = h.entry; sequence = h.sequence; has_pinned = h.has_pinned; structure = h.structure; table = h.table; walks = grind (arith, nat_tests, h.walks) }
+    record { right = h.right; pages = h.pages; entry = h.entry; sequence = h.sequence; has_pinned = h.has_pinned; structure = h.structure; table = h.table; walks = grind (arith, nat_tests, h.walks); place = h.place; retired = h.retired }
 leaves_other a p q space s other event h =
-    record { right = h.right; pages = h.pages; entry = h.entry; sequence = h.sequence; has_pinned = h.has_pinned; structure = h.structure; table = h.table; walks = h.walks }
+    record { right = h.right; pages = h.pages; entry = h.entry; sequence = h.sequence; has_pinned = h.has_pinned; structure = h.structure; table = h.table; walks = h.walks; place = h.place; retired = h.retired }
 
 pub leave_other : (a p q : ℕ) (space : SpaceValue) (s : CoreState) (es : List CoreEvent) → (p ≡ q → ⊥) → AreWalking a p es → ShowsSpace q space s → ShowsSpace q space (run s es)
 leave_other a p q space s [] other all h = h

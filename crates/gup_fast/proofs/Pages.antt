@@ -19,12 +19,12 @@ stays stage step next walks is = rw is refl
 grabs_or_misses : (F : FramesValue) (S : SpaceValue) (w : WalkValue) (page : ℕ) (e : Entry) (count : ℕ) → w.stage ≡ at (read page e) → AreWalkEvents (change F (grabbed_frames e.frame count F) S S) w (at_stage (at (step_after_grab page e count)) w) (λ s a p. grabs a p page count e w)
 grabs_or_misses F S w page e zero is s a p frames space walk = (
   record { movable = frames.movable; normal = frames.normal; count = frames.count; mark = frames.mark; word = frames.word; needs_tables = frames.needs_tables },
-  record { right = space.right; pages = space.pages; entry = space.entry; sequence = space.sequence; has_pinned = space.has_pinned; structure = space.structure; table = space.table; walks = space.walks ∙ sym (stays w.stage (read page e) _ S.walks is) },
+  record { right = space.right; pages = space.pages; entry = space.entry; sequence = space.sequence; has_pinned = space.has_pinned; structure = space.structure; table = space.table; walks = space.walks ∙ sym (stays w.stage (read page e) _ S.walks is); place = space.place; retired = space.retired },
   record { job = own a _ s.job; taken = walk.taken },
 )
 grabs_or_misses F S w page e (suc n) is s a p frames space walk = (
   record { movable = frames.movable; normal = frames.normal; count = λ g. grind (arith, nat_tests, frames.count g, frames.count e.frame); mark = frames.mark; word = frames.word; needs_tables = frames.needs_tables },
-  record { right = space.right; pages = space.pages; entry = space.entry; sequence = space.sequence; has_pinned = space.has_pinned; structure = space.structure; table = space.table; walks = space.walks ∙ sym (stays w.stage (read page e) _ S.walks is) },
+  record { right = space.right; pages = space.pages; entry = space.entry; sequence = space.sequence; has_pinned = space.has_pinned; structure = space.structure; table = space.table; walks = space.walks ∙ sym (stays w.stage (read page e) _ S.walks is); place = space.place; retired = space.retired },
   record { job = own a _ s.job; taken = walk.taken },
 )
 
@@ -55,12 +55,12 @@ takes_page w page e taken is stage more =
 same_or_other : (F : FramesValue) (S : SpaceValue) (w : WalkValue) (page : ℕ) (e : Entry) (same : Bool) → w.stage ≡ at (grabbed page e) → AreWalkEvents (change F F S S) w (if same then record w { taken = w.taken ++ e.frame ∷ []; stage = at (rechecked page e) } else at_stage (at (differed e.frame)) w) (λ s a p. if same then recheck_same a p w.want.write w.want.long w.sequence page e ∷ [] else recheck_other a p w.want.write w.want.long w.sequence page e ∷ [])
 same_or_other F S w page e true is s a p frames space walk = (
   record { movable = frames.movable; normal = frames.normal; count = frames.count; mark = frames.mark; word = frames.word; needs_tables = frames.needs_tables },
-  record { right = space.right; pages = space.pages; entry = space.entry; sequence = space.sequence; has_pinned = space.has_pinned; structure = space.structure; table = space.table; walks = space.walks ∙ sym (stays w.stage (grabbed page e) _ S.walks is) },
+  record { right = space.right; pages = space.pages; entry = space.entry; sequence = space.sequence; has_pinned = space.has_pinned; structure = space.structure; table = space.table; walks = space.walks ∙ sym (stays w.stage (grabbed page e) _ S.walks is); place = space.place; retired = space.retired },
   record { job = own a _ s.job; taken = ap taken_frames (own a _ s.taken) ∙ map-append (λ (t : Taken). t.frame) (s.taken a) _ ∙ ap (λ xs. xs ++ e.frame ∷ []) walk.taken },
 )
 same_or_other F S w page e false is s a p frames space walk = (
   record { movable = frames.movable; normal = frames.normal; count = frames.count; mark = frames.mark; word = frames.word; needs_tables = frames.needs_tables },
-  record { right = space.right; pages = space.pages; entry = space.entry; sequence = space.sequence; has_pinned = space.has_pinned; structure = space.structure; table = space.table; walks = space.walks ∙ sym (stays w.stage (grabbed page e) _ S.walks is) },
+  record { right = space.right; pages = space.pages; entry = space.entry; sequence = space.sequence; has_pinned = space.has_pinned; structure = space.structure; table = space.table; walks = space.walks ∙ sym (stays w.stage (grabbed page e) _ S.walks is); place = space.place; retired = space.retired },
   record { job = own a _ s.job; taken = walk.taken },
 )
 

@@ -107,6 +107,8 @@ filled_writable F S page f free is none absent =
         structure = refl;
         table = refl;
         walks = refl;
+        place = refl;
+        retired = refl;
       };
       table = refl;
     })
@@ -204,6 +206,8 @@ marked_upgraded F S page e had =
         structure = refl;
         table = refl;
         walks = refl;
+        place = refl;
+        retired = refl;
       };
       table = refl;
     })

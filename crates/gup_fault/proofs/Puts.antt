@@ -1,5 +1,5 @@
--- Functions of numbers that are changed at one place, and the free frame.
-use Rattle.std.proofs.Common.{◌≡◌, ℕ, zero, suc, ◌+◌, ◌==◌, Bool, true, false, cond, Some, refl, sym, ap, ◌∙◌, arith}
+-- Functions of numbers that are changed at one place, the free frame, and the one that is found for a page.
+use Rattle.std.proofs.Common.{◌≡◌, ℕ, zero, suc, ◌+◌, ◌≤◌, ◌==◌, Bool, true, false, cond, if◌then◌else◌, Some, None, refl, sym, ap, ◌∙◌, arith}
 use Rattle.std.proofs.lemmas.Bool.{eqb-true}
 use Rattle.std.proofs.lemmas.Bool.Decides.{nat_tests}
 use Rattle.gup_base.specs.declared.entry.Allowed.{Allowed}
@@ -7,6 +7,8 @@ use Rattle.gup_base.specs.declared.entry.Allowed.TheVariants.{Any, Only}
 use Rattle.gup_base.specs.declared.entry.Zone.TheVariants.{Movable, Normal}
 use Rattle.gup_plain.specs.Put.{put, lowest}
 use Rattle.gup_frames.specs.Frames.{FramesValue, free_frame, frames_in}
+use Rattle.gup_space.specs.Found.{found_for}
+use Rattle.gup_space.specs.Space.{SpaceValue, lacking}
 
 pub put_here : {X : Type 0} (k : ℕ) (x : X) (f : ℕ → X) → put k x f k ≡ x
 put_here k x f = grind (arith, nat_tests)
@@ -31,3 +33,11 @@ free_is_free frames (Only Normal) f is = eqb-true (frames.count f) 0 (lowest_pas
 
 pub free_is_other : (frames : FramesValue) (allowed : Allowed) (f g : ℕ) → free_frame frames allowed ≡ Some f → (frames.count g ≡ 0 → ⊥) → g ≡ f → ⊥
 free_is_other frames allowed f g is held same = held (ap frames.count same ∙ free_is_free frames allowed f is)
+
+-- what is found for a page that lacks no page table is the free frame
+pub found_free : (frames : FramesValue) (space : SpaceValue) (page : ℕ) (allowed : Allowed) → lacking space page ≡ 0 → found_for frames space page allowed ≡ free_frame frames allowed
+found_free frames space page allowed none = ap (λ n. if n == 0 then free_frame frames allowed else None) none
+
+-- it lacks none where not even one is missing
+pub none_at : {missing lacks : ℕ} → missing ≡ lacks → missing ≤ 0 → lacks ≡ 0
+none_at {missing} {lacks} is none = omega arith

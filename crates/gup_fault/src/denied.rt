@@ -14,7 +14,7 @@ pub enum Denied {
     Missing,
     /// The page's rights don't allow a write (`SEGV_ACCERR`).
     Forbidden,
-    /// No frame of the allowed zones is free (`VM_FAULT_OOM`).
+    /// The page lacks a page table, or no frame of the allowed zones is free (`VM_FAULT_OOM`).
     NoFrame,
 }
 
@@ -30,7 +30,8 @@ impl fmt::Display for Denied {
 
 impl Error for Denied {}
 
-/// No frame of the allowed zones is free (`VM_FAULT_OOM`). Nothing has changed then.
+/// The page lacks a page table, or no frame of the allowed zones is free (`VM_FAULT_OOM`, as where `pte_alloc` fails,
+/// `mm/memory.c`). Nothing has changed then.
 #[derive(Clone, Copy, Debug, PartialEq, Eq)]
 pub struct NoFrame;
 

@@ -3,7 +3,8 @@ ghost use Rattle.std.specs.Prelude.{◌≡◌, ℕ, true, false, Some, None, Ok,
 ghost use Rattle.gup_base.specs.declared.entry.Entry.{Entry as EntryValue};
 ghost use Rattle.gup_frames.specs.Frames.{frames_of, free_frame};
 ghost use Rattle.gup_spec_events.specs.Fault.{read_fault, unshare_fault, unshares, write_fault, makes_writable};
-ghost use Rattle.gup_space.specs.Space.{space_of, HasRoom};
+ghost use Rattle.gup_space.specs.Found.{found_for};
+ghost use Rattle.gup_space.specs.Space.{space_of};
 ghost use Rattle.gup_space.specs.Shows.{change_of};
 ghost use Rattle.gup_space.specs.Counted.{IsCounted};
 ghost use Rattle.gup_fault.specs.Refused.{denial_of, frame_denial};
@@ -17,7 +18,8 @@ use gup_space::Space;
 
 /// Makes the page ready for a load: any entry is enough, and one that has none gets a frame of zeros.
 ///
-/// Refused first where the page has no mapping, then where it wants a frame and none of the allowed zones is free.
+/// Refused first where the page has no mapping, then where it wants a frame and lacks a page table, or no frame of the
+/// allowed zones is free.
 #[inline]
 pub fn ready_read(
     space: &mut Space,
@@ -25,11 +27,10 @@ pub fn ready_read(
     page: PageNo,
     allowed: Allowed,
 ) -> Result<(), Denied>
-    requires room { HasRoom (space_of space.old) page }
     requires counted { IsCounted (frames_of frames.old) (space_of space.old) page }
     ensures fault { IsFault (change_of frames.old frames.new space.old space.new) (denial_of result)
         (λ a p. read_fault a p page ((space_of space.old).right page) ((space_of space.old).entry page)
-        (free_frame (frames_of frames.old) allowed)) }
+        (found_for (frames_of frames.old) (space_of space.old) page allowed)) }
     ensures entry { OnOk result (IsSome ((space_of space.new).entry page)) }
     ensures read_only { IsReadOnly ((space_of space.old).entry page) → IsReadOnly ((space_of space.new).entry page) }
 {
@@ -46,7 +47,8 @@ pub fn ready_read(
 /// Makes the page ready for a pin that reads: its frame must be exclusive, and is copied where it may have other
 /// references (Linux's `FAULT_FLAG_UNSHARE`).
 ///
-/// Refused first where the page has no mapping, then where it wants a frame and none of the allowed zones is free.
+/// Refused first where the page has no mapping, then where it wants a frame and lacks a page table, or no frame of the
+/// allowed zones is free.
 #[inline]
 pub fn unshare(
     space: &mut Space,
@@ -54,11 +56,11 @@ pub fn unshare(
     page: PageNo,
     allowed: Allowed,
 ) -> Result<(), Denied>
-    requires room { HasRoom (space_of space.old) page }
     requires counted { IsCounted (frames_of frames.old) (space_of space.old) page }
     ensures fault { IsFault (change_of frames.old frames.new space.old space.new) (denial_of result)
         (λ a p. unshare_fault a p page ((space_of space.old).right page) ((space_of space.old).entry page)
-        (frames_of frames.old).mark (frames_of frames.old).count (free_frame (frames_of frames.old) allowed)) }
+        (frames_of frames.old).mark (frames_of frames.old).count
+        (found_for (frames_of frames.old) (space_of space.old) page allowed)) }
     ensures marked { OnOk result (IsMarked (frames_of frames.new) ((space_of space.new).entry page)) }
     ensures read_only { IsReadOnly ((space_of space.old).entry page) → IsReadOnly ((space_of space.new).entry page) }
     ensures alone { KeepsAlone (change_of frames.old frames.new space.old space.new) page }
@@ -71,6 +73,7 @@ pub fn unshare(
         fill(space, frames, page, allowed)?;
         return Ok(());
     };
+    space.has_path(page);
     unshare_entry(space, frames, page, entry, allowed)?;
     Ok(())
 }
@@ -107,7 +110,7 @@ fn unshare_entry(
 /// and is copied where it may have other references (of Linux's `do_wp_page`).
 ///
 /// Refused first where the page has no mapping, then where its rights don't allow a write, then where it wants a frame
-/// and none of the allowed zones is free.
+/// and lacks a page table, or no frame of the allowed zones is free.
 #[inline]
 pub fn ready_write(
     space: &mut Space,
@@ -115,11 +118,11 @@ pub fn ready_write(
     page: PageNo,
     allowed: Allowed,
 ) -> Result<(), Denied>
-    requires room { HasRoom (space_of space.old) page }
     requires counted { IsCounted (frames_of frames.old) (space_of space.old) page }
     ensures fault { IsFault (change_of frames.old frames.new space.old space.new) (denial_of result)
         (λ a p. write_fault a p page ((space_of space.old).right page) ((space_of space.old).entry page)
-        (frames_of frames.old).mark (frames_of frames.old).count (free_frame (frames_of frames.old) allowed)) }
+        (frames_of frames.old).mark (frames_of frames.old).count
+        (found_for (frames_of frames.old) (space_of space.old) page allowed)) }
     ensures writable { OnOk result (IsWritable ((space_of space.new).entry page)) }
     ensures marked { ((e : EntryValue) → (space_of space.old).entry page ≡ Some e → e.writable ≡ true
         → (frames_of frames.old).mark e.frame ≡ true)
@@ -135,6 +138,7 @@ pub fn ready_write(
         fill_writable(space, frames, page, allowed)?;
         return Ok(());
     };
+    space.has_path(page);
     if !entry.writable {
         make_writable(space, frames, page, entry, allowed)?;
     }
@@ -159,6 +163,7 @@ fn make_writable(
     ensures marked { OnOk result (IsMarked (frames_of frames.new) ((space_of space.new).entry page)) }
     ensures alone { KeepsAlone (change_of frames.old frames.new space.old space.new) page }
 {
+    space.has_path(page);
     let upgraded = Some(Entry {
         frame: entry.frame,
         writable: true,

@@ -5,7 +5,8 @@ ghost use Rattle.gup_base.specs.declared.entry.Rights.TheVariants.{RW};
 ghost use Rattle.gup_frames.specs.Frames.{frames_of, free_frame};
 ghost use Rattle.gup_spec_events.specs.Event.{upgrade as upgrades};
 ghost use Rattle.gup_spec_events.specs.Fault.{fills, fills_writable, marks, breaks};
-ghost use Rattle.gup_space.specs.Space.{space_of, HasRoom};
+ghost use Rattle.gup_space.specs.Found.{found_for};
+ghost use Rattle.gup_space.specs.Space.{space_of};
 ghost use Rattle.gup_space.specs.Shows.{change_of, AreEvents};
 ghost use Rattle.gup_space.specs.Counted.{IsCounted};
 ghost use Rattle.gup_fault.specs.Refused.{frame_denial};
@@ -19,7 +20,8 @@ use gup_space::Space;
 /// Gives the mapped page, which has no entry, a frame of zeros, marked and read-only (of Linux's
 /// `do_anonymous_page`; that the entry is never writable at once is this project's own).
 ///
-/// Refused exactly where no frame of the allowed zones is free.
+/// Refused exactly where the page lacks a page table (as where Linux's `pte_alloc` fails, `mm/memory.c`), or no frame of the
+/// allowed zones is free.
 #[inline]
 pub fn fill(
     space: &mut Space,
@@ -29,11 +31,13 @@ pub fn fill(
 ) -> Result<(), NoFrame>
     requires mapped { IsSome ((space_of space.old).right page) }
     requires absent { (space_of space.old).entry page ≡ None }
-    requires room { HasRoom (space_of space.old) page }
     ensures fault { IsFault (change_of frames.old frames.new space.old space.new) (frame_denial result)
-        (λ a p. fills a p page (free_frame (frames_of frames.old) allowed)) }
+        (λ a p. fills a p page (found_for (frames_of frames.old) (space_of space.old) page allowed)) }
     ensures entry { OnOk result (IsExclusiveEntry (frames_of frames.new) false ((space_of space.new).entry page)) }
 {
+    if space.lacks(page) > 0 {
+        return Err(NoFrame);
+    }
     let Some(frame) = frames.take(allowed) else {
         return Err(NoFrame);
     };
@@ -47,6 +51,8 @@ pub fn fill(
 }
 
 /// Gives the mapped page, which has no entry, a frame of zeros, marked, and a writable entry.
+///
+/// Refused exactly where the page lacks a page table, or no frame of the allowed zones is free.
 #[inline]
 pub(crate) fn fill_writable(
     space: &mut Space,
@@ -56,11 +62,14 @@ pub(crate) fn fill_writable(
 ) -> Result<(), NoFrame>
     requires mapped { IsSome ((space_of space.old).right page) }
     requires absent { (space_of space.old).entry page ≡ None }
-    requires room { HasRoom (space_of space.old) page }
     ensures fault { IsFault (change_of frames.old frames.new space.old space.new) (frame_denial result)
-        (λ a p. fills_writable a p page (free_frame (frames_of frames.old) allowed)) }
+        (λ a p. fills_writable a p page (found_for (frames_of frames.old) (space_of space.old) page allowed)) }
     ensures entry { OnOk result (IsExclusiveEntry (frames_of frames.new) true ((space_of space.new).entry page)) }
 {
+    let missing = space.lacks(page);
+    if missing > 0 {
+        return Err(NoFrame);
+    }
     let Some(fresh) = frames.take(allowed) else {
         return Err(NoFrame);
     };
@@ -102,6 +111,7 @@ pub fn upgrade(space: &mut Space, frames: &Frames, page: PageNo)
             frame: entry.frame,
             writable: true,
         };
+        space.has_path(page);
         space.set_entry(page, Some(upgraded));
     }
 }
@@ -146,6 +156,7 @@ pub(crate) fn break_entry(
         (λ a p. breaks a p page entry writable (free_frame (frames_of frames.old) allowed)) }
     ensures entry { OnOk result (IsExclusiveEntry (frames_of frames.new) writable ((space_of space.new).entry page)) }
 {
+    space.has_path(page);
     let Some(copy) = frames.take_copy(allowed, entry.frame) else {
         return Err(NoFrame);
     };

@@ -1,5 +1,5 @@
 -- A child that is emptied page by page, from the lowest mapped one up.
-use Rattle.std.proofs.Common.{◌≡◌, ℕ, zero, suc, ◌+◌, ◌^◌, ◌<◌, ◌≤◌, ◌⊎◌, inl, inr, Bool, true, false, is_some, List, [], ◌∷◌, length, Option, Some, None, IsSome, refl, sym, ap, subst, ◌∙◌, arith, eq-or-lt_of_le}
+use Rattle.std.proofs.Common.{◌≡◌, ℕ, zero, suc, ◌+◌, ◌^◌, ◌<◌, ◌≤◌, ◌⊎◌, inl, inr, true, false, is_some, List, [], ◌∷◌, length, Option, Some, None, IsSome, refl, sym, ap, subst, ◌∙◌, arith, eq-or-lt_of_le}
 use Rattle.std.proofs.Math.Path.{fun_ext}
 use Rattle.std.proofs.lemmas.Bool.Decides.{nat_tests}
 use Rattle.gup_base.specs.declared.entry.Entry.{Entry}
@@ -122,20 +122,19 @@ no_rows (row ∷ rows) none = let here : at (row ∷ rows) row.0 ≡ None = none
 nothing_at : {X : Type 0} (rows : List (ℕ × X)) → rows ≡ [] → at rows ≡ (λ _. None)
 nothing_at {X = X} rows none = fun_ext (λ g. ap (λ (x : List (ℕ × X)). at x g) none)
 
-same_fields : (right right' : ℕ → Option Rights) (pages pages' : ℕ) (entry entry' : ℕ → Option Entry) (entries entries' sequence : ℕ) (has_pinned : Bool) (structure table : Option ℕ) (walks : ℕ) → right ≡ right' → pages ≡ pages' → entry ≡ entry' → entries ≡ entries' → ◌≡◌ {A = SpaceValue} (record { right = right; pages = pages; entry = entry; entries = entries; sequence = sequence; has_pinned = has_pinned; structure = structure; table = table; walks = walks }) (record { right = right'; pages = pages'; entry = entry'; entries = entries'; sequence = sequence; has_pinned = has_pinned; structure = structure; table = table; walks = walks })
-same_fields right right' pages pages' entry entry' entries entries' sequence has_pinned structure table walks one two three four = rw (one, two, three, four) refl
+same_fields : (space : SpaceValue) (right : ℕ → Option Rights) (pages : ℕ) (entry : ℕ → Option Entry) → space.right ≡ right → space.pages ≡ pages → space.entry ≡ entry → space ≡ record space { right = right; pages = pages; entry = entry }
+same_fields space right pages entry one two three = rw (sym one, sym two, sym three) refl
 
-is_empty : (s : SpaceParts) → s.rights ≡ [] → s.entries ≡ [] → space_of s ≡ emptied (space_of s)
-is_empty s rights entries =
-    same_fields (at s.rights) (λ _. None) (length s.rights) 0 (at s.entries) (λ _. None) (length s.entries) 0 s.sequence s.has_pinned s.structure s.table s.walks
-    (nothing_at s.rights rights) (ap length rights) (nothing_at s.entries entries) (ap length entries)
+is_empty : (s : SpaceParts) → s.rights ≡ [] → ((g : ℕ) → (space_of s).entry g ≡ None) → space_of s ≡ emptied (space_of s)
+is_empty s rights none =
+    same_fields (space_of s) (λ _. None) 0 (λ _. None) (nothing_at s.rights rights) (ap length rights) (fun_ext (λ g. none g))
 
 no_entries : (C0 C : SpaceValue) (F0 F : FramesValue) → IsLastPage C.right 0 → IsEmptying C0 C F0 F → (g : ℕ) → C.entry g ≡ None
 no_entries C0 C F0 F last h g = none_below C 0 g h.mapped (last g (omega arith))
 
 pub ends_child : (C0 : SpaceValue) (s : SpaceParts) (F0 F : FramesValue) → IsLastPage (space_of s).right 0 → IsEmptying C0 (space_of s) F0 F → space_of s ≡ emptied C0
 ends_child C0 s F0 F last h =
-    is_empty s (no_rows s.rights (λ g. last g (omega arith))) (no_rows s.entries (no_entries C0 (space_of s) F0 F last h)) ∙ h.child
+    is_empty s (no_rows s.rights (λ g. last g (omega arith))) (no_entries C0 (space_of s) F0 F last h) ∙ h.child
 
 pub ends_frames : (C0 C : SpaceValue) (F0 F : FramesValue) → IsLastPage C.right 0 → IsEmptying C0 C F0 F → F ≡ without_entries C0.entry 0 page_numbers F0
 ends_frames C0 C F0 F last h = sym (none_left C.entry 0 page_numbers F (no_entries C0 C F0 F last h)) ∙ h.frames

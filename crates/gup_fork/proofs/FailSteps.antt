@@ -103,6 +103,8 @@ put_to C0 C entry next (Some e) some h =
         structure = h.rest.structure;
         table = h.rest.table;
         walks = h.rest.walks;
+        place = h.rest.place;
+        retired = h.rest.retired;
       };
       gone = λ g below. grind (arith, nat_tests, h.gone g);
       left = λ g above. grind (arith, nat_tests, h.left g);
@@ -128,6 +130,8 @@ child_puts a p c done entry first zero P C0 C none high h =
       structure = h.rest.structure;
       table = h.rest.table;
       walks = h.rest.walks;
+      place = h.rest.place;
+      retired = h.rest.retired;
     }
   where
     all_gone : (g : ℕ) → (g < first) ⊎ (first ≤ g) → C.entry g ≡ None
@@ -156,7 +160,7 @@ failed F F' P P' C C' a done step parent child frames below =
           subst (λ (x : SpaceValue). IsShownAs (all_child_behind (puts_entries a p c done C.entry 0 page_numbers) Q (without_maps C)) x) (sym child)
           (child_puts a p c done C.entry 0 page_numbers Q (emptied C) (without_maps C) (λ g. refl) (λ g high. below g (omega (arith, high)))
           (record {
-            rest = record { right = λ g. refl; pages = refl; entry = λ g. refl; sequence = refl; has_pinned = refl; structure = refl; table = refl; walks = refl };
+            rest = record { right = λ g. refl; pages = refl; entry = λ g. refl; sequence = refl; has_pinned = refl; structure = refl; table = refl; walks = refl; place = refl; retired = refl };
             gone = λ g less. absurd (omega arith);
             left = λ g least. refl;
           }));

@@ -82,7 +82,7 @@ pub record IsMadeByFork (k : ForkChange) (a p c : ℕ) (es : List CoreEvent) : T
   pub parent : k.new_parent ≡ all_parent_behind es k.old_parent
   pub child : k.new_child ≡ all_child_behind es k.old_parent k.old_child
 
--- the same, where the child's count of entries may differ, which isn't shown
+-- the same, where the child's rights and entries need only be the same page by page
 pub record IsShownByFork (k : ForkChange) (a p c : ℕ) (es : List CoreEvent) : Type 0 where
   pub own : AreOfFork a p c es
   pub frames : k.new_frames ≡ all_frames_behind es k.old_frames

@@ -36,31 +36,31 @@ own_table p failing f = own_lock p None f
 
 pub leaves_others : (a p c q : ℕ) (space : SpaceValue) (s : CoreState) {e : CoreEvent} → (p ≡ q → ⊥) → (c ≡ q → ⊥) → IsForkEvent a p c e → ShowsSpace q space s → ShowsSpace q space (happens s e)
 leaves_others a p c q space s parent child beginning h =
-    record { right = λ g. grind (arith, nat_tests, h.right g); pages = grind (arith, nat_tests, h.pages); entry = h.entry; sequence = grind (arith, nat_tests, h.sequence); has_pinned = h.has_pinned; structure = grind (arith, nat_tests, h.structure); table = h.table; walks = h.walks }
+    record { right = λ g. grind (arith, nat_tests, h.right g); pages = grind (arith, nat_tests, h.pages); entry = h.entry; sequence = grind (arith, nat_tests, h.sequence); has_pinned = h.has_pinned; structure = grind (arith, nat_tests, h.structure); table = h.table; walks = h.walks; place = h.place; retired = h.retired }
 leaves_others a p c q space s parent child (counting done page entry copies) h =
-    record { right = h.right; pages = h.pages; entry = h.entry; sequence = h.sequence; has_pinned = h.has_pinned; structure = h.structure; table = grind (arith, nat_tests, h.table); walks = h.walks }
+    record { right = h.right; pages = h.pages; entry = h.entry; sequence = h.sequence; has_pinned = h.has_pinned; structure = h.structure; table = grind (arith, nat_tests, h.table); walks = h.walks; place = h.place; retired = h.retired }
 leaves_others a p c q space s parent child (lowering done page f writable) h =
-    record { right = h.right; pages = h.pages; entry = λ g. grind (arith, nat_tests, h.entry g); sequence = h.sequence; has_pinned = h.has_pinned; structure = h.structure; table = h.table; walks = h.walks }
+    record { right = h.right; pages = h.pages; entry = λ g. grind (arith, nat_tests, h.entry g); sequence = h.sequence; has_pinned = h.has_pinned; structure = h.structure; table = h.table; walks = h.walks; place = h.place; retired = h.retired }
 leaves_others a p c q space s parent child (unmarking done page f writable) h =
-    record { right = h.right; pages = h.pages; entry = h.entry; sequence = h.sequence; has_pinned = h.has_pinned; structure = h.structure; table = h.table; walks = h.walks }
+    record { right = h.right; pages = h.pages; entry = h.entry; sequence = h.sequence; has_pinned = h.has_pinned; structure = h.structure; table = h.table; walks = h.walks; place = h.place; retired = h.retired }
 leaves_others a p c q space s parent child (giving done page f writable) h =
-    record { right = h.right; pages = h.pages; entry = λ g. grind (arith, nat_tests, h.entry g); sequence = h.sequence; has_pinned = h.has_pinned; structure = h.structure; table = grind (arith, nat_tests, h.table); walks = h.walks }
+    record { right = h.right; pages = h.pages; entry = λ g. grind (arith, nat_tests, h.entry g); sequence = h.sequence; has_pinned = h.has_pinned; structure = h.structure; table = grind (arith, nat_tests, h.table); walks = h.walks; place = h.place; retired = h.retired }
 leaves_others a p c q space s parent child (passing done page) h =
-    record { right = h.right; pages = h.pages; entry = h.entry; sequence = h.sequence; has_pinned = h.has_pinned; structure = h.structure; table = h.table; walks = h.walks }
+    record { right = h.right; pages = h.pages; entry = h.entry; sequence = h.sequence; has_pinned = h.has_pinned; structure = h.structure; table = h.table; walks = h.walks; place = h.place; retired = h.retired }
 leaves_others a p c q space s parent child (ending done) h =
-    record { right = h.right; pages = h.pages; entry = h.entry; sequence = grind (arith, nat_tests, h.sequence); has_pinned = h.has_pinned; structure = grind (arith, nat_tests, h.structure); table = h.table; walks = h.walks }
+    record { right = h.right; pages = h.pages; entry = h.entry; sequence = grind (arith, nat_tests, h.sequence); has_pinned = h.has_pinned; structure = grind (arith, nat_tests, h.structure); table = h.table; walks = h.walks; place = h.place; retired = h.retired }
 leaves_others a p c q space s parent child (writing done page word to e) h =
-    record { right = h.right; pages = h.pages; entry = h.entry; sequence = h.sequence; has_pinned = h.has_pinned; structure = h.structure; table = h.table; walks = h.walks }
+    record { right = h.right; pages = h.pages; entry = h.entry; sequence = h.sequence; has_pinned = h.has_pinned; structure = h.structure; table = h.table; walks = h.walks; place = h.place; retired = h.retired }
 leaves_others a p c q space s parent child (placing done page to rights) h =
-    record { right = h.right; pages = h.pages; entry = λ g. grind (arith, nat_tests, h.entry g); sequence = h.sequence; has_pinned = h.has_pinned; structure = h.structure; table = grind (arith, nat_tests, h.table); walks = h.walks }
+    record { right = h.right; pages = h.pages; entry = λ g. grind (arith, nat_tests, h.entry g); sequence = h.sequence; has_pinned = h.has_pinned; structure = h.structure; table = grind (arith, nat_tests, h.table); walks = h.walks; place = h.place; retired = h.retired }
 leaves_others a p c q space s parent child (failing_at done step true) h =
-    record { right = λ g. grind (arith, nat_tests, h.right g); pages = grind (arith, nat_tests, h.pages); entry = h.entry; sequence = grind (arith, nat_tests, h.sequence); has_pinned = h.has_pinned; structure = grind (arith, nat_tests, h.structure); table = grind (arith, nat_tests, h.table); walks = h.walks }
+    record { right = λ g. grind (arith, nat_tests, h.right g); pages = grind (arith, nat_tests, h.pages); entry = h.entry; sequence = grind (arith, nat_tests, h.sequence); has_pinned = h.has_pinned; structure = grind (arith, nat_tests, h.structure); table = grind (arith, nat_tests, h.table); walks = h.walks; place = h.place; retired = h.retired }
 leaves_others a p c q space s parent child (failing_at done step false) h =
-    record { right = λ g. grind (arith, nat_tests, h.right g); pages = grind (arith, nat_tests, h.pages); entry = h.entry; sequence = grind (arith, nat_tests, h.sequence); has_pinned = h.has_pinned; structure = h.structure; table = grind (arith, nat_tests, h.table); walks = h.walks }
+    record { right = λ g. grind (arith, nat_tests, h.right g); pages = grind (arith, nat_tests, h.pages); entry = h.entry; sequence = grind (arith, nat_tests, h.sequence); has_pinned = h.has_pinned; structure = h.structure; table = grind (arith, nat_tests, h.table); walks = h.walks; place = h.place; retired = h.retired }
 leaves_others a p c q space s parent child (putting done page e true) h =
-    record { right = h.right; pages = h.pages; entry = λ g. grind (arith, nat_tests, h.entry g); sequence = h.sequence; has_pinned = h.has_pinned; structure = grind (arith, nat_tests, h.structure); table = h.table; walks = h.walks }
+    record { right = h.right; pages = h.pages; entry = λ g. grind (arith, nat_tests, h.entry g); sequence = h.sequence; has_pinned = h.has_pinned; structure = grind (arith, nat_tests, h.structure); table = h.table; walks = h.walks; place = h.place; retired = h.retired }
 leaves_others a p c q space s parent child (putting done page e false) h =
-    record { right = h.right; pages = h.pages; entry = λ g. grind (arith, nat_tests, h.entry g); sequence = h.sequence; has_pinned = h.has_pinned; structure = h.structure; table = h.table; walks = h.walks }
+    record { right = h.right; pages = h.pages; entry = λ g. grind (arith, nat_tests, h.entry g); sequence = h.sequence; has_pinned = h.has_pinned; structure = h.structure; table = h.table; walks = h.walks; place = h.place; retired = h.retired }
 
 pub job_stays : (a p c b : ℕ) (s : CoreState) {e : CoreEvent} → (a ≡ b → ⊥) → IsForkEvent a p c e → (happens s e).job b ≡ s.job b
 job_stays a p c b s other beginning = grind (arith, nat_tests)
@@ -121,59 +121,59 @@ shows_frames a p c frames s (putting done page e ends) h =
 
 pub shows_parent : (a p c : ℕ) (parent : SpaceValue) (s : CoreState) {e : CoreEvent} → (p ≡ c → ⊥) → IsForkEvent a p c e → ShowsSpace p parent s → ShowsSpace p (parent_behind e parent) (happens s e)
 shows_parent a p c parent s apart beginning h =
-    record { right = λ g. grind (arith, nat_tests, h.right g); pages = other_count c p (mapped_pages (s.right p)) s.pages apart ∙ h.pages; entry = h.entry; sequence = grind (arith, nat_tests, h.sequence); has_pinned = h.has_pinned; structure = grind (arith, nat_tests, h.structure); table = h.table; walks = h.walks }
+    record { right = λ g. grind (arith, nat_tests, h.right g); pages = other_count c p (mapped_pages (s.right p)) s.pages apart ∙ h.pages; entry = h.entry; sequence = grind (arith, nat_tests, h.sequence); has_pinned = h.has_pinned; structure = grind (arith, nat_tests, h.structure); table = h.table; walks = h.walks; place = h.place; retired = h.retired }
 shows_parent a p c parent s apart (counting done page entry copies) h =
-    record { right = h.right; pages = h.pages; entry = h.entry; sequence = h.sequence; has_pinned = h.has_pinned; structure = h.structure; table = grind (arith, nat_tests, h.table); walks = h.walks }
+    record { right = h.right; pages = h.pages; entry = h.entry; sequence = h.sequence; has_pinned = h.has_pinned; structure = h.structure; table = grind (arith, nat_tests, h.table); walks = h.walks; place = h.place; retired = h.retired }
 shows_parent a p c parent s apart (lowering done page f writable) h =
-    record { right = h.right; pages = h.pages; entry = λ g. grind (arith, nat_tests, h.entry g); sequence = h.sequence; has_pinned = h.has_pinned; structure = h.structure; table = h.table; walks = h.walks }
+    record { right = h.right; pages = h.pages; entry = λ g. grind (arith, nat_tests, h.entry g); sequence = h.sequence; has_pinned = h.has_pinned; structure = h.structure; table = h.table; walks = h.walks; place = h.place; retired = h.retired }
 shows_parent a p c parent s apart (unmarking done page f writable) h =
-    record { right = h.right; pages = h.pages; entry = h.entry; sequence = h.sequence; has_pinned = h.has_pinned; structure = h.structure; table = h.table; walks = h.walks }
+    record { right = h.right; pages = h.pages; entry = h.entry; sequence = h.sequence; has_pinned = h.has_pinned; structure = h.structure; table = h.table; walks = h.walks; place = h.place; retired = h.retired }
 shows_parent a p c parent s apart (giving done page f writable) h =
-    record { right = h.right; pages = h.pages; entry = λ g. grind (arith, nat_tests, h.entry g); sequence = h.sequence; has_pinned = h.has_pinned; structure = h.structure; table = grind (arith, nat_tests, h.table); walks = h.walks }
+    record { right = h.right; pages = h.pages; entry = λ g. grind (arith, nat_tests, h.entry g); sequence = h.sequence; has_pinned = h.has_pinned; structure = h.structure; table = grind (arith, nat_tests, h.table); walks = h.walks; place = h.place; retired = h.retired }
 shows_parent a p c parent s apart (passing done page) h =
-    record { right = h.right; pages = h.pages; entry = h.entry; sequence = h.sequence; has_pinned = h.has_pinned; structure = h.structure; table = h.table; walks = h.walks }
+    record { right = h.right; pages = h.pages; entry = h.entry; sequence = h.sequence; has_pinned = h.has_pinned; structure = h.structure; table = h.table; walks = h.walks; place = h.place; retired = h.retired }
 shows_parent a p c parent s apart (ending done) h =
-    record { right = h.right; pages = h.pages; entry = h.entry; sequence = grind (arith, nat_tests, h.sequence); has_pinned = h.has_pinned; structure = grind (arith, nat_tests, h.structure); table = h.table; walks = h.walks }
+    record { right = h.right; pages = h.pages; entry = h.entry; sequence = grind (arith, nat_tests, h.sequence); has_pinned = h.has_pinned; structure = grind (arith, nat_tests, h.structure); table = h.table; walks = h.walks; place = h.place; retired = h.retired }
 shows_parent a p c parent s apart (writing done page word to e) h =
-    record { right = h.right; pages = h.pages; entry = h.entry; sequence = h.sequence; has_pinned = h.has_pinned; structure = h.structure; table = h.table; walks = h.walks }
+    record { right = h.right; pages = h.pages; entry = h.entry; sequence = h.sequence; has_pinned = h.has_pinned; structure = h.structure; table = h.table; walks = h.walks; place = h.place; retired = h.retired }
 shows_parent a p c parent s apart (placing done page to rights) h =
-    record { right = h.right; pages = h.pages; entry = λ g. grind (arith, nat_tests, h.entry g); sequence = h.sequence; has_pinned = h.has_pinned; structure = h.structure; table = grind (arith, nat_tests, h.table); walks = h.walks }
+    record { right = h.right; pages = h.pages; entry = λ g. grind (arith, nat_tests, h.entry g); sequence = h.sequence; has_pinned = h.has_pinned; structure = h.structure; table = grind (arith, nat_tests, h.table); walks = h.walks; place = h.place; retired = h.retired }
 shows_parent a p c parent s apart (failing_at done step true) h =
-    record { right = λ g. grind (arith, nat_tests, h.right g); pages = grind (arith, nat_tests, h.pages); entry = h.entry; sequence = grind (arith, nat_tests, h.sequence); has_pinned = h.has_pinned; structure = own_lock p None s.structure; table = own_table p step s.table ∙ ap (table_behind step) h.table; walks = h.walks }
+    record { right = λ g. grind (arith, nat_tests, h.right g); pages = grind (arith, nat_tests, h.pages); entry = h.entry; sequence = grind (arith, nat_tests, h.sequence); has_pinned = h.has_pinned; structure = own_lock p None s.structure; table = own_table p step s.table ∙ ap (table_behind step) h.table; walks = h.walks; place = h.place; retired = h.retired }
 shows_parent a p c parent s apart (failing_at done step false) h =
-    record { right = λ g. grind (arith, nat_tests, h.right g); pages = grind (arith, nat_tests, h.pages); entry = h.entry; sequence = grind (arith, nat_tests, h.sequence); has_pinned = h.has_pinned; structure = h.structure; table = own_table p step s.table ∙ ap (table_behind step) h.table; walks = h.walks }
+    record { right = λ g. grind (arith, nat_tests, h.right g); pages = grind (arith, nat_tests, h.pages); entry = h.entry; sequence = grind (arith, nat_tests, h.sequence); has_pinned = h.has_pinned; structure = h.structure; table = own_table p step s.table ∙ ap (table_behind step) h.table; walks = h.walks; place = h.place; retired = h.retired }
 shows_parent a p c parent s apart (putting done page e true) h =
-    record { right = h.right; pages = h.pages; entry = λ g. grind (arith, nat_tests, h.entry g); sequence = h.sequence; has_pinned = h.has_pinned; structure = own_lock p None s.structure; table = h.table; walks = h.walks }
+    record { right = h.right; pages = h.pages; entry = λ g. grind (arith, nat_tests, h.entry g); sequence = h.sequence; has_pinned = h.has_pinned; structure = own_lock p None s.structure; table = h.table; walks = h.walks; place = h.place; retired = h.retired }
 shows_parent a p c parent s apart (putting done page e false) h =
-    record { right = h.right; pages = h.pages; entry = λ g. grind (arith, nat_tests, h.entry g); sequence = h.sequence; has_pinned = h.has_pinned; structure = h.structure; table = h.table; walks = h.walks }
+    record { right = h.right; pages = h.pages; entry = λ g. grind (arith, nat_tests, h.entry g); sequence = h.sequence; has_pinned = h.has_pinned; structure = h.structure; table = h.table; walks = h.walks; place = h.place; retired = h.retired }
 
 pub shows_child : (a p c : ℕ) (parent child : SpaceValue) (s : CoreState) {e : CoreEvent} → (p ≡ c → ⊥) → IsForkEvent a p c e → ShowsSpace p parent s → ShowsSpace c child s → ShowsSpace c (child_behind e parent child) (happens s e)
 shows_child a p c parent child s apart beginning of h =
-    record { right = λ g. grind (arith, nat_tests, of.right g); pages = own_count c (mapped_pages (s.right p)) s.pages ∙ ap mapped_pages (λ i g. of.right g i); entry = h.entry; sequence = grind (arith, nat_tests, h.sequence); has_pinned = h.has_pinned; structure = grind (arith, nat_tests, h.structure); table = h.table; walks = h.walks }
+    record { right = λ g. grind (arith, nat_tests, of.right g); pages = own_count c (mapped_pages (s.right p)) s.pages ∙ ap mapped_pages (λ i g. of.right g i); entry = h.entry; sequence = grind (arith, nat_tests, h.sequence); has_pinned = h.has_pinned; structure = grind (arith, nat_tests, h.structure); table = h.table; walks = h.walks; place = h.place; retired = h.retired }
 shows_child a p c parent child s apart (counting done page entry copies) of h =
-    record { right = h.right; pages = h.pages; entry = h.entry; sequence = h.sequence; has_pinned = h.has_pinned; structure = h.structure; table = grind (arith, nat_tests, h.table); walks = h.walks }
+    record { right = h.right; pages = h.pages; entry = h.entry; sequence = h.sequence; has_pinned = h.has_pinned; structure = h.structure; table = grind (arith, nat_tests, h.table); walks = h.walks; place = h.place; retired = h.retired }
 shows_child a p c parent child s apart (lowering done page f writable) of h =
-    record { right = h.right; pages = h.pages; entry = λ g. grind (arith, nat_tests, h.entry g); sequence = h.sequence; has_pinned = h.has_pinned; structure = h.structure; table = h.table; walks = h.walks }
+    record { right = h.right; pages = h.pages; entry = λ g. grind (arith, nat_tests, h.entry g); sequence = h.sequence; has_pinned = h.has_pinned; structure = h.structure; table = h.table; walks = h.walks; place = h.place; retired = h.retired }
 shows_child a p c parent child s apart (unmarking done page f writable) of h =
-    record { right = h.right; pages = h.pages; entry = h.entry; sequence = h.sequence; has_pinned = h.has_pinned; structure = h.structure; table = h.table; walks = h.walks }
+    record { right = h.right; pages = h.pages; entry = h.entry; sequence = h.sequence; has_pinned = h.has_pinned; structure = h.structure; table = h.table; walks = h.walks; place = h.place; retired = h.retired }
 shows_child a p c parent child s apart (giving done page f writable) of h =
-    record { right = h.right; pages = h.pages; entry = λ g. grind (arith, nat_tests, h.entry g); sequence = h.sequence; has_pinned = h.has_pinned; structure = h.structure; table = grind (arith, nat_tests, h.table); walks = h.walks }
+    record { right = h.right; pages = h.pages; entry = λ g. grind (arith, nat_tests, h.entry g); sequence = h.sequence; has_pinned = h.has_pinned; structure = h.structure; table = grind (arith, nat_tests, h.table); walks = h.walks; place = h.place; retired = h.retired }
 shows_child a p c parent child s apart (passing done page) of h =
-    record { right = h.right; pages = h.pages; entry = h.entry; sequence = h.sequence; has_pinned = h.has_pinned; structure = h.structure; table = h.table; walks = h.walks }
+    record { right = h.right; pages = h.pages; entry = h.entry; sequence = h.sequence; has_pinned = h.has_pinned; structure = h.structure; table = h.table; walks = h.walks; place = h.place; retired = h.retired }
 shows_child a p c parent child s apart (ending done) of h =
-    record { right = h.right; pages = h.pages; entry = h.entry; sequence = grind (arith, nat_tests, h.sequence); has_pinned = h.has_pinned; structure = grind (arith, nat_tests, h.structure); table = h.table; walks = h.walks }
+    record { right = h.right; pages = h.pages; entry = h.entry; sequence = grind (arith, nat_tests, h.sequence); has_pinned = h.has_pinned; structure = grind (arith, nat_tests, h.structure); table = h.table; walks = h.walks; place = h.place; retired = h.retired }
 shows_child a p c parent child s apart (writing done page word to e) of h =
-    record { right = h.right; pages = h.pages; entry = h.entry; sequence = h.sequence; has_pinned = h.has_pinned; structure = h.structure; table = h.table; walks = h.walks }
+    record { right = h.right; pages = h.pages; entry = h.entry; sequence = h.sequence; has_pinned = h.has_pinned; structure = h.structure; table = h.table; walks = h.walks; place = h.place; retired = h.retired }
 shows_child a p c parent child s apart (placing done page to rights) of h =
-    record { right = h.right; pages = h.pages; entry = λ g. grind (arith, nat_tests, h.entry g); sequence = h.sequence; has_pinned = h.has_pinned; structure = h.structure; table = grind (arith, nat_tests, h.table); walks = h.walks }
+    record { right = h.right; pages = h.pages; entry = λ g. grind (arith, nat_tests, h.entry g); sequence = h.sequence; has_pinned = h.has_pinned; structure = h.structure; table = grind (arith, nat_tests, h.table); walks = h.walks; place = h.place; retired = h.retired }
 shows_child a p c parent child s apart (failing_at done step true) of h =
-    record { right = λ g. grind (arith, nat_tests, h.right g); pages = grind (arith, nat_tests, h.pages); entry = h.entry; sequence = grind (arith, nat_tests, h.sequence); has_pinned = h.has_pinned; structure = grind (arith, nat_tests, h.structure); table = grind (arith, nat_tests, h.table); walks = h.walks }
+    record { right = λ g. grind (arith, nat_tests, h.right g); pages = grind (arith, nat_tests, h.pages); entry = h.entry; sequence = grind (arith, nat_tests, h.sequence); has_pinned = h.has_pinned; structure = grind (arith, nat_tests, h.structure); table = grind (arith, nat_tests, h.table); walks = h.walks; place = h.place; retired = h.retired }
 shows_child a p c parent child s apart (failing_at done step false) of h =
-    record { right = λ g. grind (arith, nat_tests, h.right g); pages = grind (arith, nat_tests, h.pages); entry = h.entry; sequence = grind (arith, nat_tests, h.sequence); has_pinned = h.has_pinned; structure = h.structure; table = grind (arith, nat_tests, h.table); walks = h.walks }
+    record { right = λ g. grind (arith, nat_tests, h.right g); pages = grind (arith, nat_tests, h.pages); entry = h.entry; sequence = grind (arith, nat_tests, h.sequence); has_pinned = h.has_pinned; structure = h.structure; table = grind (arith, nat_tests, h.table); walks = h.walks; place = h.place; retired = h.retired }
 shows_child a p c parent child s apart (putting done page e true) of h =
-    record { right = h.right; pages = h.pages; entry = λ g. grind (arith, nat_tests, h.entry g); sequence = h.sequence; has_pinned = h.has_pinned; structure = grind (arith, nat_tests, h.structure); table = h.table; walks = h.walks }
+    record { right = h.right; pages = h.pages; entry = λ g. grind (arith, nat_tests, h.entry g); sequence = h.sequence; has_pinned = h.has_pinned; structure = grind (arith, nat_tests, h.structure); table = h.table; walks = h.walks; place = h.place; retired = h.retired }
 shows_child a p c parent child s apart (putting done page e false) of h =
-    record { right = h.right; pages = h.pages; entry = λ g. grind (arith, nat_tests, h.entry g); sequence = h.sequence; has_pinned = h.has_pinned; structure = h.structure; table = h.table; walks = h.walks }
+    record { right = h.right; pages = h.pages; entry = λ g. grind (arith, nat_tests, h.entry g); sequence = h.sequence; has_pinned = h.has_pinned; structure = h.structure; table = h.table; walks = h.walks; place = h.place; retired = h.retired }
 
 pub show_frames : (a p c : ℕ) (frames : FramesValue) (s : CoreState) (es : List CoreEvent) → AreOfFork a p c es → ShowsFrames frames s → ShowsFrames (all_frames_behind es frames) (run s es)
 show_frames a p c frames s [] own h = h
@@ -200,7 +200,7 @@ are_fork_events k a events made s p c apart frames parent child =
       subst (λ (x : SpaceValue). ShowsSpace c x behind) (sym by.child) (show_child a p c k.old_parent k.old_child s (events p c) apart by.own parent child),
     )
 
--- the same, where the child's count of entries may differ
+-- the same, where the child's rights and entries need only be the same page by page
 pub are_shown_fork_events : (k : ForkChange) (a : ℕ) (events : (p c : ℕ) → List CoreEvent) → ((p c : ℕ) → IsShownByFork k a p c (events p c)) → AreForkEvents k events
 are_shown_fork_events k a events made s p c apart frames parent child =
     let by : IsShownByFork k a p c (events p c) = made p c in

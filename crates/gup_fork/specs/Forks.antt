@@ -107,6 +107,6 @@ table_behind step holder = None
 abbrev pub without_maps : SpaceValue → SpaceValue
 without_maps space = record space { right = λ _. None; pages = 0 }
 
--- no page is mapped, and none has an entry
+-- no page is mapped, and none has an entry; its page tables stay
 abbrev pub emptied : SpaceValue → SpaceValue
-emptied space = record (without_maps space) { entry = λ _. None; entries = 0 }
+emptied space = record (without_maps space) { entry = λ _. None }

@@ -5,7 +5,7 @@ ghost use Rattle.gup_base.specs.declared.entry.Entry.{Entry as EntryValue};
 ghost use Rattle.gup_base.specs.declared.entry.Rights.{Rights as RightsValue};
 ghost use Rattle.gup_frames.specs.Frames.{frames_of, IsFrame, with_mark, with_word};
 ghost use Rattle.gup_spec_events.specs.Event.{copy_word as copies_word, place_child as places_child, entry_of, is_writable};
-ghost use Rattle.gup_space.specs.Space.{SpaceParts, space_of, with_entry, HasRoom};
+ghost use Rattle.gup_space.specs.Space.{SpaceParts, space_of, with_entry, lacking};
 ghost use Rattle.gup_space.specs.Counted.{IsCounted};
 ghost use Rattle.gup_fork.specs.Forks.{fork_change_of, with_table, AreForkEvents};
 
@@ -46,7 +46,7 @@ fn may_write(child: &Space, page: PageNo) -> bool
     }
 }
 
-/// Gives the child's page, which has no entry, the copy: the frame gets its mark, and the child an entry of it, writable
+/// Gives the child's page, which has no entry, but all four page tables of its path, the copy: the frame gets its mark, and the child an entry of it, writable
 /// exactly where the page may be written. The parent keeps its entry, and the frame that it pinned (the end of
 /// `copy_present_page`). Whoever counted the page frees the table lock with it.
 #[inline]
@@ -63,7 +63,7 @@ pub fn place_child(
     requires apart { (e : EntryValue) → (space_of parent.now).entry page ≡ Some e → copy ≡ e.frame → ⊥ }
     requires mapped { IsSome ((space_of child.old).right page) }
     requires absent { (space_of child.old).entry page ≡ None }
-    requires room { HasRoom (space_of child.old) page }
+    requires path { lacking (space_of child.old) page ≡ 0 }
     ensures child { (rights : RightsValue) → (space_of child.old).right page ≡ Some rights
         → space_of child.new ≡ with_entry page (Some (entry_of copy (is_writable rights))) (space_of child.old) }
     ensures frames { frames_of frames.new ≡ with_mark copy true (frames_of frames.old) }

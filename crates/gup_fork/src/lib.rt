@@ -7,7 +7,7 @@ ghost use Rattle.gup_base.specs.declared.entry.Entry.{Entry as EntryValue};
 ghost use Rattle.gup_base.specs.declared.entry.Zone.{Zone as ZoneValue};
 ghost use Rattle.gup_frames.specs.Frames.{FrameLists, frames_of, free_of};
 ghost use Rattle.gup_spec_events.specs.Event.{begin_fork, end_fork, entry_of};
-ghost use Rattle.gup_space.specs.Space.{SpaceParts, space_of, HasRoom};
+ghost use Rattle.gup_space.specs.Space.{SpaceParts, space_of, lacking};
 ghost use Rattle.gup_space.specs.Counted.{IsCounted};
 ghost use Rattle.gup_fork.specs.Forks.{fork_change_of, with_structure, with_table, AreForkEvents, with_maps_of, copies_frame, shares, shared, with_shared};
 
@@ -64,7 +64,7 @@ fn read_only(frame: FrameNo) -> Entry
     }
 }
 
-/// Shares the page, which has an entry and of which the child has none: the parent's entry becomes read-only, the
+/// Shares the page, which has an entry and of which the child has none, but all four page tables of its path: the parent's entry becomes read-only, the
 /// frame's mark goes, and the child gets a read-only entry of the same frame, which has one reference more
 /// (`__copy_present_ptes`; the order is this project's own, Linux raises the count first). No frame is taken, and no
 /// word changes. Whoever counted the page frees the table lock with it.
@@ -76,7 +76,7 @@ pub fn share(parent: &mut Space, child: &mut Space, frames: &mut Frames, page: P
         → (frames_of frames.old).count e.frame < 2 ^ 40 }
     requires mapped { IsSome ((space_of child.old).right page) }
     requires absent { (space_of child.old).entry page ≡ None }
-    requires room { HasRoom (space_of child.old) page }
+    requires path { lacking (space_of child.old) page ≡ 0 }
     ensures parent { (e : EntryValue) → (space_of parent.old).entry page ≡ Some e
         → space_of parent.new ≡ with_shared page e.frame (space_of parent.old) }
     ensures child { (e : EntryValue) → (space_of parent.old).entry page ≡ Some e

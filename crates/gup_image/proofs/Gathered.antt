@@ -47,4 +47,10 @@ pub along-at : {X Y : Type 0} (of : ℕ → X → List Y) (xs : List X) (k a : �
     → new ≡ first ++ gathered (λ i. at_place of i (slice_get xs i)) (k + 1)
 along-at of xs k a x first facts new is same here more = along-put of xs k x first facts new is here (more ∙ ap (λ i. facts ++ of i x) same)
 
+-- nine lists are put on in turn
+pub nine-put : {X : Type 0} (a b c d e f g h i : List X) (start f1 f2 f3 f4 f5 f6 f7 f8 f9 : List X) → start ≡ [] → f1 ≡ start ++ a → f2 ≡ f1 ++ b → f3 ≡ f2 ++ c → f4 ≡ f3 ++ d → f5 ≡ f4 ++ e → f6 ≡ f5 ++ f → f7 ≡ f6 ++ g → f8 ≡ f7 ++ h → f9 ≡ f8 ++ i
+    → f9 ≡ a ++ b ++ c ++ d ++ e ++ f ++ g ++ h ++ i
+nine-put a b c d e f g h i start f1 f2 f3 f4 f5 f6 f7 f8 f9 none is_a is_b is_c is_d is_e is_f is_g is_h is_i =
+    let first : f1 ≡ a = is_a ∙ ap (λ xs. xs ++ a) none in cc
+
 pub ruleset gathering = (gathered-first, gathered-put, along-put)

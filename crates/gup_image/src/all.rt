@@ -1,6 +1,7 @@
 //! The image of all parts.
 ghost use Rattle.std.specs.Prelude.{◌≡◌, ◌≤◌, length, IfOk};
 ghost use Rattle.gup_frames.specs.Frames.{frames_of, frames_in};
+ghost use Rattle.gup_tables.specs.Pool.{pool_of};
 ghost use Rattle.gup_op_base.specs.Tidy.{AreNumbered};
 ghost use Rattle.gup_op_waits.specs.Parts.{EachSpace};
 ghost use Rattle.gup_image.specs.Image.{image_of, HasNoMore};
@@ -10,10 +11,12 @@ use crate::fact::{Fact, KeptFact, put};
 use crate::frames::push_frames;
 use crate::handles::{push_handles, push_slots};
 use crate::processes::push_processes;
+use crate::tables::push_used;
 use gup_base::NoMemory;
 use gup_notify::Mirrors;
 use gup_op_waits::Parts;
 use gup_op_waits::seats::Seat;
+use gup_tables::Pool;
 use std::alloc::Global;
 
 /// The facts of a machine that is made of these, in a fixed order: two machines have the same facts exactly where they show the same
@@ -23,6 +26,7 @@ pub fn image(
     parts: &Parts,
     mirrors: &Mirrors,
     seats: &Vec<Seat>,
+    pool: &Pool,
 ) -> Result<Vec<KeptFact>, NoMemory>
     requires frames { frames_in (frames_of parts.now.frames) ≤ 1024 }
     requires processes { length parts.now.spaces.items ≤ 16 }
@@ -31,7 +35,7 @@ pub fn image(
     requires stores { length parts.now.stores.items ≤ 81 }
     requires seats { length seats.now.items ≤ 81 }
     requires numbered { EachSpace AreNumbered parts.now.spaces.items }
-    ensures { IfOk result (λ facts. facts.items ≡ image_of parts.now mirrors.now seats.now.items) }
+    ensures { IfOk result (λ facts. facts.items ≡ image_of parts.now mirrors.now seats.now.items (pool_of pool.now)) }
 {
     let mut facts = Vec::new(alloc);
     put(
@@ -42,7 +46,9 @@ pub fn image(
         },
     )?;
     push_frames(&mut facts, &parts.frames)?;
-    push_processes(&mut facts, parts)?;
+    pool.is_within();
+    push_processes(&mut facts, parts, pool.tables())?;
+    push_used(&mut facts, pool)?;
     push_handles(&mut facts, &parts.handles)?;
     push_slots(&mut facts, mirrors)?;
     push_taken(&mut facts, &parts.taken)?;
@@ -52,10 +58,11 @@ pub fn image(
 }
 
 /// A law: nothing is past what an image goes over.
-pub fn is_whole(parts: &Parts, mirrors: &Mirrors)
-    ensures { HasNoMore parts.now mirrors.now }
+pub fn is_whole(parts: &Parts, mirrors: &Mirrors, pool: &Pool)
+    ensures { HasNoMore parts.now mirrors.now (pool_of pool.now) }
 {
     parts.frames.are_there();
     parts.handles.are_numbered();
     mirrors.are_numbered();
+    pool.is_within();
 }

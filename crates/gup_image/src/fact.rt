@@ -6,10 +6,11 @@ use gup_base::{
 };
 use gup_op_base::JobPlace;
 use gup_op_waits::Birth;
+use gup_tables::TableNo;
 use std::marker::Model;
 
 /// Something that is true of a machine. What isn't said is as at the start: a frame is free and its words are 0, a page isn't mapped, a
-/// handle is unmade, a slot is empty.
+/// page table is free, a handle is unmade, a slot is empty.
 #[derive(Clone, Copy, Debug, PartialEq, Eq, Hash)]
 pub enum Fact {
     /// So many frames are of either zone.
@@ -47,6 +48,24 @@ pub enum Fact {
         rights: Rights,
         entry: Option<Entry>,
         page: PageNo,
+    },
+    /// A page table that isn't free.
+    Used {
+        table: TableNo,
+    },
+    /// Where a page table stands in the tree of a process: at this level, and which span of that level it covers.
+    Table {
+        proc: ProcNo,
+        level: u8,
+        span: u64,
+        table: TableNo,
+    },
+    /// A page table that the process has taken out of its tree, at this place among those that wait, of which the first was taken out
+    /// the longest ago.
+    Retired {
+        proc: ProcNo,
+        place: u16,
+        table: TableNo,
     },
     /// A pin that the actor holds, or that is given to it.
     Pin {

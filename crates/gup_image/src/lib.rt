@@ -8,6 +8,7 @@ mod fact;
 mod frames;
 mod handles;
 mod processes;
+mod tables;
 
 pub use all::{image, is_whole};
 pub use fact::{Fact, KeptFact};

@@ -9,20 +9,26 @@ ghost use Rattle.gup_image.specs.Gathered.{gathered, along};
 ghost use Rattle.gup_image.specs.Image.{pages, process_facts, born_facts};
 
 use crate::fact::{Fact, KeptFact, put};
+use crate::tables::{push_places, push_retired};
 use gup_base::{NoMemory, PageNo, ProcNo};
 use gup_op_waits::{Birth, Parts};
 use gup_space::Space;
 
-/// Those of all processes.
-pub(crate) fn push_processes(facts: &mut Vec<KeptFact>, parts: &Parts) -> Result<(), NoMemory>
+/// Those of all processes, whose page tables have numbers below `tables`.
+pub(crate) fn push_processes(
+    facts: &mut Vec<KeptFact>,
+    parts: &Parts,
+    tables: u32,
+) -> Result<(), NoMemory>
     requires few { length parts.now.spaces.items ≤ 16 }
     requires births { length parts.now.births.items ≡ length parts.now.spaces.items }
     requires numbered { EachSpace AreNumbered parts.now.spaces.items }
+    requires tables { tables ≤ 8192 }
     ensures { OnOk result (facts.new.items ≡ facts.old.items
-        ++ along (λ p space. born_facts p (slice_get parts.now.births.items p) space) parts.now.spaces.items) }
+        ++ along (λ p space. born_facts tables p (slice_get parts.now.births.items p) space) parts.now.spaces.items) }
 {
     for p in 0..parts.spaces.len() {
-        push_process(facts, proc_no(p), parts.births[p], &parts.spaces[p])?;
+        push_process(facts, proc_no(p), parts.births[p], &parts.spaces[p], tables)?;
     }
     Ok(())
 }
@@ -39,9 +45,11 @@ fn push_process(
     proc: ProcNo,
     birth: Birth,
     space: &Space,
+    tables: u32,
 ) -> Result<(), NoMemory>
-    requires { AreNumbered (space_of space.now) }
-    ensures { OnOk result (facts.new.items ≡ facts.old.items ++ process_facts proc birth (space_of space.now)) }
+    requires numbered { AreNumbered (space_of space.now) }
+    requires tables { tables ≤ 8192 }
+    ensures { OnOk result (facts.new.items ≡ facts.old.items ++ process_facts tables proc birth (space_of space.now)) }
 {
     put(
         facts,
@@ -56,7 +64,9 @@ fn push_process(
             walks: space.walks(),
         },
     )?;
-    push_pages(facts, proc, space)
+    push_pages(facts, proc, space)?;
+    push_places(facts, proc, space, tables)?;
+    push_retired(facts, proc, space)
 }
 
 fn push_pages(facts: &mut Vec<KeptFact>, proc: ProcNo, space: &Space) -> Result<(), NoMemory>

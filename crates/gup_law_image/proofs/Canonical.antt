@@ -1,6 +1,6 @@
 -- Machines that show the same state have the same image.
 use Rattle.std.specs.Prelude.{slice_index}
-use Rattle.std.proofs.Common.{◌≡◌, ℕ, ◌+◌, ◌<◌, List, [], ◌∷◌, ◌++◌, slice_get, length, Option, Some, None, refl, sym, ap, ◌∙◌, subst}
+use Rattle.std.proofs.Common.{◌≡◌, ℕ, ◌+◌, ◌<◌, Bool, List, [], ◌∷◌, ◌++◌, slice_get, length, Option, Some, None, refl, sym, ap, ◌∙◌, subst}
 use Rattle.std.proofs.lemmas.Option.{get_or_from_slice_get, slice_get_within}
 use Rattle.gup_base.specs.declared.entry.Rights.{Rights}
 use Rattle.gup_plain.specs.State as plain
@@ -8,7 +8,9 @@ use Rattle.gup_plain.specs.Event.{words, page_numbers}
 use Rattle.gup_script.specs.Limits.{most_handles, most_mirrors}
 use Rattle.gup_frames.specs.Frames.{FramesValue, frames_of, frames_in}
 use Rattle.gup_space.specs.Space.{SpaceValue, SpaceParts, space_of}
-use Rattle.gup_space.specs.Shows.{ShowsSpace}
+use Rattle.gup_space.specs.Shows.{ShowsSpace, ShowsPool}
+use Rattle.gup_spec_tables.specs.declared.place.Place.{Place}
+use Rattle.gup_tables.specs.Pool.{pool_of}
 use Rattle.gup_handles.specs.Handles.{HandleValue, unmade, held, given, got, gone, handles_of}
 use Rattle.gup_handles.specs.Shows.{IsShown}
 use Rattle.gup_notify.specs.Mirrors.{Filled as FilledSlot, mirrors_of}
@@ -22,11 +24,11 @@ use Rattle.gup_op_waits.specs.declared.seats.Seat.{Seat}
 use Rattle.gup_image.specs.declared.fact.Fact.{Fact}
 use Rattle.gup_image.specs.declared.fact.Fact.TheVariants.{Process, Taken, Stands}
 use Rattle.gup_image.specs.Gathered.{gathered, along}
-use Rattle.gup_image.specs.Image.{frame_fact, word_fact, frame_facts, page_fact, process_facts, born_facts, handle_facts, slot_fact, stored_fact, store_facts, read_job, seat_fact, zones_fact}
+use Rattle.gup_image.specs.Image.{frame_fact, word_fact, frame_facts, page_fact, process_facts, born_facts, used_fact, used, place_fact, places, retired_fact, handle_facts, slot_fact, stored_fact, store_facts, read_job, seat_fact, zones_fact}
 use Rattle.gup_law_image.specs.Alike.{Imaged, AreOfOne, IsSameSeat, AreSameSeats, image_in}
 use Rattle.gup_law_image.proofs.Gathered.{gathered_same, along_same, nothing_along, partner}
 use Rattle.gup_law_image.proofs.Jobs.{same_read}
-use Rattle.gup_law_image.proofs.Whole.{frames_said, processes_said, handles_said, slots_said, taken_said, stores_said, seats_said, taken_facts}
+use Rattle.gup_law_image.proofs.Whole.{frames_said, space_facts, processes_said, used_said, handles_said, slots_said, taken_said, stores_said, seats_said, taken_facts}
 
 -- ---- what a machine keeps of a birth, a handle and a slot is what the state has of it
 
@@ -73,6 +75,10 @@ slot_kept (Some filled) frame noted is =
     let made : ℕ → ℕ → Option FilledSlot = λ proc page. Some (record { proc = proc; page = page; frame = filled.frame }) in
     sym (ap (λ (x : Option ℕ). kept_slot x noted) is.0 ∙ ap (kept_slot (Some filled.frame)) is.1.1 ∙ ap (λ x. made x it.page) is.1.2 ∙ ap (made filled.proc) is.1.3)
 
+-- three lists in a row
+three_same : {X : Type 0} (a b c p q r : List X) → a ≡ p → b ≡ q → c ≡ r → a ++ b ++ c ≡ p ++ q ++ r
+three_same a b c p q r is_a is_b is_c = cc
+
 -- ---- equal facts of equal values
 
 frame_facts_same : (F G : FramesValue) (f : ℕ) → F.count f ≡ G.count f → F.mark f ≡ G.mark f → ((w : ℕ) → F.word f w ≡ G.word f w) → frame_facts F f ≡ frame_facts G f
@@ -87,20 +93,31 @@ head_same : (p : ℕ) (birth : Birth) (s t : SpaceValue) → s.has_pinned ≡ t.
     → Process p birth s.has_pinned s.structure s.table s.pages s.sequence s.walks ≡ Process p birth t.has_pinned t.structure t.table t.pages t.sequence t.walks
 head_same p birth s t has_pinned structure table pages sequence walks = cc
 
-process_facts_same : (p : ℕ) (birth : Birth) (x y : SpaceValue) (s : CoreState) → ShowsSpace p x s → ShowsSpace p y s → process_facts p birth x ≡ process_facts p birth y
-process_facts_same p birth x y s one other =
-    let first : Process p birth x.has_pinned x.structure x.table x.pages x.sequence x.walks ≡ Process p birth y.has_pinned y.structure y.table y.pages y.sequence y.walks =
-    head_same p birth x y (sym one.has_pinned ∙ other.has_pinned) (sym one.structure ∙ other.structure) (sym one.table ∙ other.table) (sym one.pages ∙ other.pages) (sym one.sequence ∙ other.sequence) (sym one.walks ∙ other.walks) in
-    let rest : gathered (λ page. page_fact p page (x.right page) (x.entry page)) page_numbers ≡ gathered (λ page. page_fact p page (y.right page) (y.entry page)) page_numbers =
+-- of what is equal, all that an image says of a process behind its first fact is
+space_facts_same : (tables p : ℕ) (x y : SpaceValue) (s : CoreState) → ShowsSpace p x s → ShowsSpace p y s → space_facts tables p x ≡ space_facts tables p y
+space_facts_same tables p x y s one other =
+    let pages : gathered (λ page. page_fact p page (x.right page) (x.entry page)) page_numbers ≡ gathered (λ page. page_fact p page (y.right page) (y.entry page)) page_numbers =
     gathered_same (λ page. page_fact p page (x.right page) (x.entry page)) (λ page. page_fact p page (y.right page) (y.entry page)) page_numbers
     (λ page within.
     ap (λ (r : Option Rights). page_fact p page r (x.entry page)) (sym (one.right page) ∙ other.right page)
     ∙ ap (page_fact p page (y.right page)) (sym (one.entry page) ∙ other.entry page)) in
-    cc
+    let stand : gathered (places p x) tables ≡ gathered (places p y) tables =
+    ap (λ (place : ℕ → Option Place). gathered (λ table. place_fact p table (place table)) tables) (sym one.place ∙ other.place) in
+    let wait : along (retired_fact p) x.retired ≡ along (retired_fact p) y.retired = ap (along (retired_fact p)) (sym one.retired ∙ other.retired) in
+    three_same (gathered (λ page. page_fact p page (x.right page) (x.entry page)) page_numbers) (gathered (places p x) tables) (along (retired_fact p) x.retired)
+    (gathered (λ page. page_fact p page (y.right page) (y.entry page)) page_numbers) (gathered (places p y) tables) (along (retired_fact p) y.retired)
+    pages stand wait
 
-born_facts_same : (p : ℕ) (birth : Option Birth) (x y : SpaceParts) (s : CoreState) → ShowsSpace p (space_of x) s → ShowsSpace p (space_of y) s → born_facts p birth x ≡ born_facts p birth y
-born_facts_same p None x y s one other = refl
-born_facts_same p (Some birth) x y s one other = process_facts_same p birth (space_of x) (space_of y) s one other
+process_facts_same : (tables p : ℕ) (birth : Birth) (x y : SpaceValue) (s : CoreState) → ShowsSpace p x s → ShowsSpace p y s → process_facts tables p birth x ≡ process_facts tables p birth y
+process_facts_same tables p birth x y s one other =
+    let first : Process p birth x.has_pinned x.structure x.table x.pages x.sequence x.walks ≡ Process p birth y.has_pinned y.structure y.table y.pages y.sequence y.walks =
+    head_same p birth x y (sym one.has_pinned ∙ other.has_pinned) (sym one.structure ∙ other.structure) (sym one.table ∙ other.table) (sym one.pages ∙ other.pages) (sym one.sequence ∙ other.sequence) (sym one.walks ∙ other.walks) in
+    ap (λ (fact : Fact). fact ∷ space_facts tables p x) first
+    ∙ ap (λ (facts : List Fact). Process p birth y.has_pinned y.structure y.table y.pages y.sequence y.walks ∷ facts) (space_facts_same tables p x y s one other)
+
+born_facts_same : (tables p : ℕ) (birth : Option Birth) (x y : SpaceParts) (s : CoreState) → ShowsSpace p (space_of x) s → ShowsSpace p (space_of y) s → born_facts tables p birth x ≡ born_facts tables p birth y
+born_facts_same tables p None x y s one other = refl
+born_facts_same tables p (Some birth) x y s one other = process_facts_same tables p birth (space_of x) (space_of y) s one other
 
 seat_facts_same : (a : ℕ) (x y : Seat) → IsSameSeat x y → seat_fact a x ≡ seat_fact a y
 seat_facts_same a x y same =
@@ -148,10 +165,11 @@ module _ (m n : Imaged) (s : CoreState) (both : AreOfOne m n) (one : ShowsParts 
 
   processes_same : processes_said m ≡ processes_said n
   processes_same =
-      along_same (λ p space. born_facts p (slice_get m.parts.births.items p) space) (λ p space. born_facts p (slice_get n.parts.births.items p) space) m.parts.spaces.items n.parts.spaces.items both.spaces
+      along_same (λ p space. born_facts (pool_of m.pool).tables p (slice_get m.parts.births.items p) space) (λ p space. born_facts (pool_of n.pool).tables p (slice_get n.parts.births.items p) space) m.parts.spaces.items n.parts.spaces.items both.spaces
       (λ p x y here there.
-      ap (λ (o : Option Birth). born_facts p o x) (births_same p x y here there)
-      ∙ born_facts_same p (slice_get n.parts.births.items p) x y s (one.spaces p x here) (other.spaces p y there))
+      ap (λ (o : Option Birth). born_facts (pool_of m.pool).tables p o x) (births_same p x y here there)
+      ∙ born_facts_same (pool_of m.pool).tables p (slice_get n.parts.births.items p) x y s (one.spaces p x here) (other.spaces p y there)
+      ∙ ap (λ (tables : ℕ). born_facts tables p (slice_get n.parts.births.items p) y) both.tables)
 
   handles_same : handles_said m ≡ handles_said n
   handles_same =
@@ -180,14 +198,20 @@ slots_same m n s one other =
 seats_same : (m n : Imaged) → AreOfOne m n → AreSameSeats m.seats n.seats → seats_said m ≡ seats_said n
 seats_same m n both same = along_same seat_fact seat_fact m.seats n.seats both.seats (λ a x y here there. seat_facts_same a x y (same a x y here there))
 
--- eight lists in a row
-eight_same : {X : Type 0} (a b c d e f g h p q r s t u v w : List X) → a ≡ p → b ≡ q → c ≡ r → d ≡ s → e ≡ t → f ≡ u → g ≡ v → h ≡ w
-    → a ++ b ++ c ++ d ++ e ++ f ++ g ++ h ≡ p ++ q ++ r ++ s ++ t ++ u ++ v ++ w
-eight_same a b c d e f g h p q r s t u v w is_a is_b is_c is_d is_e is_f is_g is_h = cc
+used_same : (m n : Imaged) (s : CoreState) → AreOfOne m n → ShowsPool (pool_of m.pool) s → ShowsPool (pool_of n.pool) s → used_said m ≡ used_said n
+used_same m n s both one other =
+    ap (λ (free : ℕ → Bool). gathered (λ table. used_fact (free table) table) (pool_of m.pool).tables) (sym one ∙ other)
+    ∙ ap (gathered (used (pool_of n.pool))) both.tables
 
-pub canonical : (m n : Imaged) (s : CoreState) → AreOfOne m n → ShowsParts m.parts s → ShowsParts n.parts s → ShowsMirrors (mirrors_of m.mirrors) s → ShowsMirrors (mirrors_of n.mirrors) s → AreSameSeats m.seats n.seats → image_in m ≡ image_in n
-canonical m n s both one other mirrors also seats =
-    eight_same (zones_fact (frames_of m.parts.frames)) (frames_said m) (processes_said m) (handles_said m) (slots_said m) (taken_said m) (stores_said m) (seats_said m)
-    (zones_fact (frames_of n.parts.frames)) (frames_said n) (processes_said n) (handles_said n) (slots_said n) (taken_said n) (stores_said n) (seats_said n)
-    (zones_same m n s both one other) (frames_same m n s both one other) (processes_same m n s both one other) (handles_same m n s both one other)
+-- nine lists in a row
+nine_same : {X : Type 0} (a b c d e f g h i p q r s t u v w x : List X) → a ≡ p → b ≡ q → c ≡ r → d ≡ s → e ≡ t → f ≡ u → g ≡ v → h ≡ w → i ≡ x
+    → a ++ b ++ c ++ d ++ e ++ f ++ g ++ h ++ i ≡ p ++ q ++ r ++ s ++ t ++ u ++ v ++ w ++ x
+nine_same a b c d e f g h i p q r s t u v w x is_a is_b is_c is_d is_e is_f is_g is_h is_i = cc
+
+pub canonical : (m n : Imaged) (s : CoreState) → AreOfOne m n → ShowsParts m.parts s → ShowsParts n.parts s → ShowsMirrors (mirrors_of m.mirrors) s → ShowsMirrors (mirrors_of n.mirrors) s
+    → ShowsPool (pool_of m.pool) s → ShowsPool (pool_of n.pool) s → AreSameSeats m.seats n.seats → image_in m ≡ image_in n
+canonical m n s both one other mirrors also pool others seats =
+    nine_same (zones_fact (frames_of m.parts.frames)) (frames_said m) (processes_said m) (used_said m) (handles_said m) (slots_said m) (taken_said m) (stores_said m) (seats_said m)
+    (zones_fact (frames_of n.parts.frames)) (frames_said n) (processes_said n) (used_said n) (handles_said n) (slots_said n) (taken_said n) (stores_said n) (seats_said n)
+    (zones_same m n s both one other) (frames_same m n s both one other) (processes_same m n s both one other) (used_same m n s both pool others) (handles_same m n s both one other)
     (slots_same m n s mirrors also) (taken_same m n s both one other) (stores_same m n s both one other) (seats_same m n both seats)

@@ -1,11 +1,14 @@
 -- Machines with the same image are the same in all that a state has of them.
 use Rattle.std.specs.Prelude.{slice_index}
-use Rattle.std.proofs.Common.{◌≡◌, ℕ, ◌<◌, Bool, true, false, List, slice_get, length, Option, Some, None, IsSome, All, refl, sym, ◌∙◌, subst, ◌⊎◌, inl, inr}
+use Rattle.std.proofs.Common.{◌≡◌, ℕ, ◌<◌, ◌≤◌, Bool, true, false, List, slice_get, length, Option, Some, None, IsSome, All, refl, sym, ◌∙◌, subst, ◌⊎◌, inl, inr}
+use Rattle.std.proofs.lemmas.Bool.{cases_lt}
 use Rattle.gup_base.specs.declared.entry.Entry.{Entry}
 use Rattle.gup_base.specs.declared.entry.Rights.{Rights}
 use Rattle.gup_frames.specs.Frames.{frames_of}
 use Rattle.gup_space.specs.Space.{SpaceValue, SpaceParts, space_of, AreMapped}
-use Rattle.gup_space.specs.Shows.{ShowsSpace}
+use Rattle.gup_space.specs.Shows.{ShowsSpace, ShowsPool}
+use Rattle.gup_spec_tables.specs.declared.place.Place.{Place}
+use Rattle.gup_tables.specs.Pool.{pool_of}
 use Rattle.gup_handles.specs.Handles.{HandleValue, unmade, handles_of}
 use Rattle.gup_handles.specs.Shows.{IsShown}
 use Rattle.gup_notify.specs.Mirrors.{Filled as FilledSlot, mirrors_of}
@@ -21,12 +24,21 @@ use Rattle.gup_law_image.proofs.Gathered.{partner, same_items, same_option, none
 use Rattle.gup_law_image.proofs.Facts.{IsTrueOf, IsProcess, IsPage, IsSeat, bare, same_handle, unmade_or_not}
 use Rattle.gup_law_image.proofs.Jobs.{same_place, same_last}
 use Rattle.gup_law_image.proofs.Whole.{AreSaid, parts_said, image_true}
-use Rattle.gup_law_image.proofs.Told.{zones_told, count_told, mark_told, word_told, process_told, page_told, handle_told, pinned_told, slot_told, taken_told, stored_told, seat_told}
+use Rattle.gup_law_image.proofs.Told.{zones_told, count_told, mark_told, word_told, process_told, page_told, place_told, retired_told, used_told, handle_told, pinned_told, slot_told, taken_told, stored_told, seat_told}
 
 -- a mark is missing, or is not
 false_or_true : (b : Bool) → (b ≡ false) ⊎ (b ≡ false → ⊥)
 false_or_true false = inl refl
 false_or_true true = inr (λ is. cc)
+
+-- a table is free, or is not
+true_or_false : (b : Bool) → (b ≡ true) ⊎ (b ≡ true → ⊥)
+true_or_false true = inl refl
+true_or_false false = inr (λ is. cc)
+
+used_false : (b : Bool) → (b ≡ true → ⊥) → b ≡ false
+used_false false used = refl
+used_false true used = absurd (used refl)
 
 -- a page that is not mapped has no entry
 unmapped : (space : SpaceValue) → AreMapped space → (page : ℕ) (entry : Option Entry) → space.entry page ≡ entry → space.right page ≡ None → space.entry page ≡ None
@@ -81,6 +93,21 @@ module _ (m n : Imaged) (both : AreOfOne m n) (to : AreSaid (IsTrueOf n) m) (bac
         ∙ sym (unmapped (space_of y) (both.other.mapped p y there) page ((space_of y).entry page) refl (sym (same_right page) ∙ is))
     entry_by page (Some rights) is = sym (page_to page rights is).entry
 
+    place_to : (table : ℕ) (it : Place) → (space_of x).place table ≡ Some it → (space_of y).place table ≡ Some it
+    place_to table it at = place_told n m both.one to p x y birth here born there table it at
+
+    place_back : (table : ℕ) (it : Place) → (space_of y).place table ≡ Some it → (space_of x).place table ≡ Some it
+    place_back table it at = place_told m n both.other back p y x birth there also_born here table it at
+
+    same_places : (space_of x).place ≡ (space_of y).place
+    same_places = λ i table. same_option ((space_of x).place table) ((space_of y).place table) (place_to table) (place_back table) i
+
+    same_retired : (space_of x).retired ≡ (space_of y).retired
+    same_retired =
+        same_items (space_of x).retired (space_of y).retired
+        (λ k table waits. retired_told n m both.one to p x y birth here born there k table waits)
+        (λ k table waits. retired_told m n both.other back p y x birth there also_born here k table waits)
+
     space_shown : (s : CoreState) → ShowsSpace p (space_of y) s → ShowsSpace p (space_of x) s
     space_shown s shows =
         record {
@@ -92,7 +119,31 @@ module _ (m n : Imaged) (both : AreOfOne m n) (to : AreSaid (IsTrueOf n) m) (bac
           structure = shows.structure ∙ process_same.structure;
           table = shows.table ∙ process_same.table;
           walks = shows.walks ∙ process_same.walks;
+          place = shows.place ∙ sym same_places;
+          retired = shows.retired ∙ sym same_retired;
         }
+
+  -- ---- page tables
+
+  used_to : (table : ℕ) → table < (pool_of m.pool).tables → ((pool_of m.pool).free table ≡ true → ⊥) → (pool_of n.pool).free table ≡ (pool_of m.pool).free table
+  used_to table within used =
+      let is : (pool_of m.pool).free table ≡ false = used_false ((pool_of m.pool).free table) used in used_told n m both.one to table within is ∙ sym is
+
+  used_back : (table : ℕ) → table < (pool_of n.pool).tables → ((pool_of n.pool).free table ≡ true → ⊥) → (pool_of m.pool).free table ≡ (pool_of n.pool).free table
+  used_back table within used =
+      let is : (pool_of n.pool).free table ≡ false = used_false ((pool_of n.pool).free table) used in used_told m n both.other back table within is ∙ sym is
+
+  free_by : (table : ℕ) → (table < (pool_of m.pool).tables) ⊎ ((pool_of m.pool).tables ≤ table) → (pool_of m.pool).free table ≡ (pool_of n.pool).free table
+  free_by table (inl within) =
+      same_told true ((pool_of m.pool).free table) ((pool_of n.pool).free table) (true_or_false ((pool_of m.pool).free table)) (true_or_false ((pool_of n.pool).free table))
+      (used_to table within) (used_back table (subst (λ (k : ℕ). table < k) both.tables within))
+  free_by table (inr past) = both.one.more.free table past ∙ sym (both.other.more.free table (subst (λ (k : ℕ). k ≤ table) both.tables past))
+
+  same_free : (pool_of m.pool).free ≡ (pool_of n.pool).free
+  same_free = λ i table. free_by table (cases_lt table (pool_of m.pool).tables) i
+
+  pool_shown : (s : CoreState) → ShowsPool (pool_of n.pool) s → ShowsPool (pool_of m.pool) s
+  pool_shown s shows = shows ∙ sym same_free
 
   -- ---- handles, mirror slots
 
@@ -181,6 +232,9 @@ module _ (m n : Imaged) (both : AreOfOne m n) (same : image_in m ≡ image_in n)
 
   pub exact_mirrors : (s : CoreState) → ShowsMirrors (mirrors_of n.mirrors) s → ShowsMirrors (mirrors_of m.mirrors) s
   exact_mirrors = mirrors_shown m n both to_other from_other
+
+  pub exact_pool : (s : CoreState) → ShowsPool (pool_of n.pool) s → ShowsPool (pool_of m.pool) s
+  exact_pool = pool_shown m n both to_other from_other
 
   pub exact_seats : AreSameSeats m.seats n.seats
   exact_seats = seats_same m n both to_other from_other

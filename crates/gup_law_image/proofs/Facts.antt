@@ -8,15 +8,17 @@ use Rattle.gup_base.specs.declared.entry.Rights.{Rights}
 use Rattle.arrayvec.specs.ArrayVec.{ArrayVec}
 use Rattle.gup_frames.specs.Frames.{frames_of}
 use Rattle.gup_space.specs.Space.{SpaceValue, SpaceParts, space_of}
+use Rattle.gup_spec_tables.specs.declared.place.Place.{Place}
+use Rattle.gup_tables.specs.Pool.{pool_of}
 use Rattle.gup_handles.specs.Handles.{HandleValue, unmade, held, given, got, gone, handles_of}
 use Rattle.gup_notify.specs.Mirrors.{Filled as FilledSlot, mirrors_of}
 use Rattle.gup_op_base.specs.declared.jobs.JobPlace.{JobPlace}
 use Rattle.gup_op_waits.specs.declared.seats.Seat.{Seat}
 use Rattle.gup_op_pins.specs.Pins.{frames_in}
 use Rattle.gup_image.specs.declared.fact.Fact.{Fact}
-use Rattle.gup_image.specs.declared.fact.Fact.TheVariants.{Zones, Frame, Word, Process, Page, Pin, Pinned, Got, Gone, Taken, Stored, Filled, Stands}
+use Rattle.gup_image.specs.declared.fact.Fact.TheVariants.{Zones, Frame, Word, Process, Page, Used, Table, Retired, Pin, Pinned, Got, Gone, Taken, Stored, Filled, Stands}
 use Rattle.gup_image.specs.Gathered.{along}
-use Rattle.gup_image.specs.Image.{frame_fact, word_fact, page_fact, handle_facts, slot_fact, stored_fact, read_job}
+use Rattle.gup_image.specs.Image.{frame_fact, word_fact, page_fact, used_fact, place_fact, handle_facts, slot_fact, stored_fact, read_job}
 use Rattle.gup_law_image.specs.Alike.{Imaged}
 use Rattle.gup_law_image.proofs.Gathered.{all_along, along_at}
 
@@ -82,6 +84,9 @@ IsTrueOf m (Process p birth has_pinned structure table pages sequence walks) =
     (slice_get m.parts.births.items p ≡ Some birth)
     × ((space : SpaceParts) → slice_get m.parts.spaces.items p ≡ Some space → IsProcess (space_of space) has_pinned structure table pages sequence walks)
 IsTrueOf m (Page p rights entry page) = (space : SpaceParts) → slice_get m.parts.spaces.items p ≡ Some space → IsPage (space_of space) rights entry page
+IsTrueOf m (Used table) = (pool_of m.pool).free table ≡ false
+IsTrueOf m (Table p level span table) = (space : SpaceParts) → slice_get m.parts.spaces.items p ≡ Some space → (space_of space).place table ≡ Some (record { level = level; span = span })
+IsTrueOf m (Retired p k table) = (space : SpaceParts) → slice_get m.parts.spaces.items p ≡ Some space → slice_get (space_of space).retired k ≡ Some table
 IsTrueOf m (Pin by false write h) = bare (handles_of m.parts.handles h) ≡ held by [] write
 IsTrueOf m (Pin to true write h) = bare (handles_of m.parts.handles h) ≡ given to [] write
 IsTrueOf m (Pinned k frame h) = slice_get (frames_in (handles_of m.parts.handles h)) k ≡ Some frame
@@ -124,6 +129,23 @@ module _ (P : Fact → Type 0) where
   page_there p page None entry rights is all = absurd (none-some rights is)
   page_there p page (Some other) entry rights is all =
       subst (λ (r : Rights). P (Page p r entry page)) (same_Some other rights is) (All-head P (Page p other entry page) [] all)
+
+  pub all_used : (table : ℕ) (free : Bool) → (free ≡ false → P (Used table)) → All P (used_fact free table)
+  all_used table true used = All-nil P
+  all_used table false used = alone (Used table) (used refl)
+
+  pub used_there : (table : ℕ) (free : Bool) → free ≡ false → All P (used_fact free table) → P (Used table)
+  used_there table true is all = absurd (cc)
+  used_there table false is all = All-head P (Used table) [] all
+
+  pub all_place : (p table : ℕ) (place : Option Place) → ((it : Place) → place ≡ Some it → P (Table p it.level it.span table)) → All P (place_fact p table place)
+  all_place p table None each = All-nil P
+  all_place p table (Some it) each = alone (Table p it.level it.span table) (each it refl)
+
+  pub place_there : (p table : ℕ) (place : Option Place) (it : Place) → place ≡ Some it → All P (place_fact p table place) → P (Table p it.level it.span table)
+  place_there p table None it is all = absurd (none-some it is)
+  place_there p table (Some other) it is all =
+      subst (λ (x : Place). P (Table p x.level x.span table)) (same_Some other it is) (All-head P (Table p other.level other.span table) [] all)
 
   pub all_slot : (k : ℕ) (slot : Option FilledSlot) → ((it : FilledSlot) → slot ≡ Some it → P (Filled k it.proc it.frame it.page)) → All P (slot_fact k slot)
   all_slot k None each = All-nil P

@@ -1,6 +1,6 @@
 -- What an image tells of another machine, of which each of its facts is true, too.
 use Rattle.std.specs.Prelude.{slice_index}
-use Rattle.std.proofs.Common.{◌≡◌, ℕ, ◌<◌, Bool, true, false, List, [], ◌∷◌, slice_get, Option, Some, All, refl, sym, ap, ◌∙◌, subst}
+use Rattle.std.proofs.Common.{◌≡◌, ℕ, ◌<◌, ◌||◌, Bool, true, false, is_some, List, [], ◌∷◌, ◌++◌, slice_get, Option, Some, All, refl, sym, ap, ◌∙◌, subst}
 use Rattle.std.proofs.lemmas.List.Elements.{All-head, All-tail}
 use Rattle.std.proofs.lemmas.Option.{none-some}
 use Rattle.arrayvec.specs.ArrayVec.{ArrayVec}
@@ -9,18 +9,21 @@ use Rattle.gup_plain.specs.Event.{words, page_numbers}
 use Rattle.gup_script.specs.Limits.{most_handles, most_mirrors}
 use Rattle.gup_frames.specs.Frames.{FramesValue, frames_of, frames_in, IsFrame}
 use Rattle.gup_space.specs.Space.{SpaceValue, SpaceParts, space_of}
+use Rattle.gup_spec_tables.specs.Tables.{is_among}
+use Rattle.gup_spec_tables.specs.declared.place.Place.{Place}
+use Rattle.gup_tables.specs.Pool.{pool_of}
 use Rattle.gup_handles.specs.Handles.{HandleValue, unmade, handles_of}
 use Rattle.gup_notify.specs.Mirrors.{Filled as FilledSlot, mirrors_of}
 use Rattle.gup_op_pins.specs.Pins.{frames_in as pages_in}
 use Rattle.gup_op_waits.specs.declared.births.Birth.{Birth}
 use Rattle.gup_op_waits.specs.declared.seats.Seat.{Seat}
-use Rattle.gup_image.specs.declared.fact.Fact.TheVariants.{Zones, Process, Taken, Stands}
-use Rattle.gup_image.specs.Gathered.{gathered}
-use Rattle.gup_image.specs.Image.{frame_fact, word_fact, frame_facts, page_fact, process_facts, born_facts, handle_facts, slot_fact, stored_fact, store_facts, read_job, seat_fact}
+use Rattle.gup_image.specs.declared.fact.Fact.TheVariants.{Zones, Process, Retired, Taken, Stands}
+use Rattle.gup_image.specs.Gathered.{gathered, along}
+use Rattle.gup_image.specs.Image.{frame_fact, word_fact, frame_facts, page_fact, process_facts, born_facts, used, places, retired_fact, handle_facts, slot_fact, stored_fact, store_facts, read_job, seat_fact}
 use Rattle.gup_law_image.specs.Alike.{Imaged, IsWhole}
 use Rattle.gup_law_image.proofs.Gathered.{all_left, all_right, gathered_at, along_at, inside_or_past, read_here}
-use Rattle.gup_law_image.proofs.Facts.{IsTrueOf, IsProcess, IsPage, IsSeat, bare, frame_there, word_there, page_there, slot_there, stored_there, bare_told, frames_told}
-use Rattle.gup_law_image.proofs.Whole.{AreSaid, taken_facts}
+use Rattle.gup_law_image.proofs.Facts.{IsTrueOf, IsProcess, IsPage, IsSeat, bare, frame_there, word_there, page_there, used_there, place_there, slot_there, stored_there, bare_told, frames_told}
+use Rattle.gup_law_image.proofs.Whole.{AreSaid, space_facts, taken_facts}
 
 -- a mark that is not missing is there
 marked_true : (b : Bool) → (b ≡ false → ⊥) → b ≡ true
@@ -64,26 +67,64 @@ module _ (n m : Imaged) (whole : IsWhole m) (said : AreSaid (IsTrueOf n) m) wher
 
   -- ---- processes
 
-  process_said : (p : ℕ) (space : SpaceParts) (birth : Birth) → slice_get m.parts.spaces.items p ≡ Some space → slice_get m.parts.births.items p ≡ Some birth → All (IsTrueOf n) (process_facts p birth (space_of space))
+  process_said : (p : ℕ) (space : SpaceParts) (birth : Birth) → slice_get m.parts.spaces.items p ≡ Some space → slice_get m.parts.births.items p ≡ Some birth → All (IsTrueOf n) (process_facts (pool_of m.pool).tables p birth (space_of space))
   process_said p space birth here is =
-      subst (λ (o : Option Birth). All (IsTrueOf n) (born_facts p o space)) is
-      (along_at (IsTrueOf n) (λ q it. born_facts q (slice_get m.parts.births.items q) it) m.parts.spaces.items p space here said.processes)
+      subst (λ (o : Option Birth). All (IsTrueOf n) (born_facts (pool_of m.pool).tables p o space)) is
+      (along_at (IsTrueOf n) (λ q it. born_facts (pool_of m.pool).tables q (slice_get m.parts.births.items q) it) m.parts.spaces.items p space here said.processes)
 
   pub process_told : (p : ℕ) (space : SpaceParts) (birth : Birth) → slice_get m.parts.spaces.items p ≡ Some space → slice_get m.parts.births.items p ≡ Some birth
       → (slice_get n.parts.births.items p ≡ Some birth)
       × ((other : SpaceParts) → slice_get n.parts.spaces.items p ≡ Some other → IsProcess (space_of other) (space_of space).has_pinned (space_of space).structure (space_of space).table (space_of space).pages (space_of space).sequence (space_of space).walks)
   process_told p space birth here is =
       let s : SpaceValue = space_of space in
-      All-head (IsTrueOf n) (Process p birth s.has_pinned s.structure s.table s.pages s.sequence s.walks) (gathered (λ page. page_fact p page (s.right page) (s.entry page)) page_numbers) (process_said p space birth here is)
+      All-head (IsTrueOf n) (Process p birth s.has_pinned s.structure s.table s.pages s.sequence s.walks) (space_facts (pool_of m.pool).tables p s) (process_said p space birth here is)
 
-  pub page_told : (p : ℕ) (space other : SpaceParts) (birth : Birth) → slice_get m.parts.spaces.items p ≡ Some space → slice_get m.parts.births.items p ≡ Some birth → slice_get n.parts.spaces.items p ≡ Some other
-      → (page : ℕ) (rights : Rights) → (space_of space).right page ≡ Some rights → IsPage (space_of other) rights ((space_of space).entry page) page
-  page_told p space other birth here is there page rights mapped =
+  -- and so are those behind its first
+  space_said : (p : ℕ) (space : SpaceParts) (birth : Birth) → slice_get m.parts.spaces.items p ≡ Some space → slice_get m.parts.births.items p ≡ Some birth → All (IsTrueOf n) (space_facts (pool_of m.pool).tables p (space_of space))
+  space_said p space birth here is =
       let s : SpaceValue = space_of space in
-      page_there (IsTrueOf n) p page (s.right page) (s.entry page) rights mapped
-      (gathered_at (IsTrueOf n) (λ g. page_fact p g (s.right g) (s.entry g)) page_numbers page (whole.numbered p space here page rights mapped)
-      (All-tail (IsTrueOf n) (Process p birth s.has_pinned s.structure s.table s.pages s.sequence s.walks) (gathered (λ g. page_fact p g (s.right g) (s.entry g)) page_numbers) (process_said p space birth here is)))
-      other there
+      All-tail (IsTrueOf n) (Process p birth s.has_pinned s.structure s.table s.pages s.sequence s.walks) (space_facts (pool_of m.pool).tables p s) (process_said p space birth here is)
+
+  module _ (p : ℕ) (space other : SpaceParts) (birth : Birth) (here : slice_get m.parts.spaces.items p ≡ Some space) (is : slice_get m.parts.births.items p ≡ Some birth) (there : slice_get n.parts.spaces.items p ≡ Some other) where
+    mapped_said : All (IsTrueOf n) (gathered (λ g. page_fact p g ((space_of space).right g) ((space_of space).entry g)) page_numbers ++ gathered (places p (space_of space)) (pool_of m.pool).tables)
+    mapped_said =
+        let s : SpaceValue = space_of space in
+        all_left (IsTrueOf n) (gathered (λ g. page_fact p g (s.right g) (s.entry g)) page_numbers ++ gathered (places p s) (pool_of m.pool).tables) (along (retired_fact p) s.retired) (space_said p space birth here is)
+
+    pub page_told : (page : ℕ) (rights : Rights) → (space_of space).right page ≡ Some rights → IsPage (space_of other) rights ((space_of space).entry page) page
+    page_told page rights mapped =
+        let s : SpaceValue = space_of space in
+        page_there (IsTrueOf n) p page (s.right page) (s.entry page) rights mapped
+        (gathered_at (IsTrueOf n) (λ g. page_fact p g (s.right g) (s.entry g)) page_numbers page (whole.numbered p space here page rights mapped)
+        (all_left (IsTrueOf n) (gathered (λ g. page_fact p g (s.right g) (s.entry g)) page_numbers) (gathered (places p s) (pool_of m.pool).tables) mapped_said))
+        other there
+
+    -- a table that stands somewhere is the pool's
+    table_within : (table : ℕ) (it : Place) → (space_of space).place table ≡ Some it → table < (pool_of m.pool).tables
+    table_within table it at = whole.tables p space here table (ap (λ (o : Option Place). is_some o || is_among (space_of space).retired table) at)
+
+    pub place_told : (table : ℕ) (it : Place) → (space_of space).place table ≡ Some it → (space_of other).place table ≡ Some it
+    place_told table it at =
+        let s : SpaceValue = space_of space in
+        place_there (IsTrueOf n) p table (s.place table) it at
+        (gathered_at (IsTrueOf n) (places p s) (pool_of m.pool).tables table (table_within table it at)
+        (all_right (IsTrueOf n) (gathered (λ g. page_fact p g (s.right g) (s.entry g)) page_numbers) (gathered (places p s) (pool_of m.pool).tables) mapped_said))
+        other there
+
+    pub retired_told : (k table : ℕ) → slice_get (space_of space).retired k ≡ Some table → slice_get (space_of other).retired k ≡ Some table
+    retired_told k table waits =
+        let s : SpaceValue = space_of space in
+        All-head (IsTrueOf n) (Retired p k table) []
+        (along_at (IsTrueOf n) (retired_fact p) s.retired k table waits
+        (all_right (IsTrueOf n) (gathered (λ g. page_fact p g (s.right g) (s.entry g)) page_numbers ++ gathered (places p s) (pool_of m.pool).tables) (along (retired_fact p) s.retired) (space_said p space birth here is)))
+        other there
+
+  -- ---- page tables
+
+  pub used_told : (table : ℕ) → table < (pool_of m.pool).tables → (pool_of m.pool).free table ≡ false → (pool_of n.pool).free table ≡ false
+  used_told table within is =
+      used_there (IsTrueOf n) table ((pool_of m.pool).free table) is
+      (gathered_at (IsTrueOf n) (used (pool_of m.pool)) (pool_of m.pool).tables table within said.used)
 
   -- ---- handles
 

@@ -1,6 +1,7 @@
 -- Machines that are compared by their images.
-use Rattle.std.specs.Prelude.{◌≡◌, ℕ, List, Option, Some, length, slice_get}
-use Rattle.gup_space.specs.Space.{AreMapped}
+use Rattle.std.specs.Prelude.{◌≡◌, ℕ, ◌<◌, true, List, Option, Some, length, slice_get}
+use Rattle.gup_space.specs.Space.{AreMapped, has_table}
+use Rattle.gup_tables.specs.Pool.{PoolParts, pool_of}
 use Rattle.gup_notify.specs.Mirrors.{Filled}
 use Rattle.gup_op_base.specs.Jobs.{place_of}
 use Rattle.gup_op_base.specs.Tidy.{AreNumbered}
@@ -17,18 +18,21 @@ pub record Imaged : Type 0 where
   pub parts : Parts
   pub mirrors : List (Option Filled)
   pub seats : List Seat
+  pub pool : PoolParts
 
 abbrev pub image_in : Imaged → List Fact
-image_in m = image_of m.parts m.mirrors m.seats
+image_in m = image_of m.parts m.mirrors m.seats (pool_of m.pool)
 
--- nothing is past what an image goes over, each mapped page has the number of one, and each entry is of a mapped page
+-- Nothing is past what an image goes over, each mapped page has the number of one, each entry is of a mapped page, and each page table
+-- of a process is the pool's.
 pub record IsWhole (m : Imaged) : Type 0 where
-  pub more : HasNoMore m.parts m.mirrors
+  pub more : HasNoMore m.parts m.mirrors (pool_of m.pool)
   pub births : length m.parts.births.items ≡ length m.parts.spaces.items
   pub numbered : EachSpace AreNumbered m.parts.spaces.items
   pub mapped : EachSpace AreMapped m.parts.spaces.items
+  pub tables : EachSpace (λ s. (table : ℕ) → has_table s table ≡ true → table < (pool_of m.pool).tables) m.parts.spaces.items
 
--- both have as many processes and actors, and stores of the same sizes
+-- both have as many processes, actors and page tables, and stores of the same sizes
 pub record AreOfOne (m n : Imaged) : Type 0 where
   pub one : IsWhole m
   pub other : IsWhole n
@@ -37,6 +41,7 @@ pub record AreOfOne (m n : Imaged) : Type 0 where
   pub stores : length m.parts.stores.items ≡ length n.parts.stores.items
   pub slots : (a : ℕ) (x y : Option (List ℕ)) → slice_get m.parts.stores.items a ≡ Some x → slice_get n.parts.stores.items a ≡ Some y → slots_in x ≡ slots_in y
   pub seats : length m.seats ≡ length n.seats
+  pub tables : (pool_of m.pool).tables ≡ (pool_of n.pool).tables
 
 -- the same operation, as far, and its job at the same place; of a walk that drops its pages the last one that is left is the same, too
 pub record IsSameSeat (x y : Seat) : Type 0 where

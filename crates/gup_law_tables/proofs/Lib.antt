@@ -5,7 +5,9 @@ pub mod TableEvents
 pub mod TableRuns
 pub mod Growth
 pub mod Somewhere
+pub mod Nowhere
 pub mod Entries
 pub mod KeptPaths
 pub mod Paths
 pub mod FourTables
+pub mod DownPaths

@@ -19,11 +19,11 @@ pub placed : (place : ℕ → Option Place) → IsTree place → ArePlaced place
 placed place tree = record { numbered = tree.numbered; apart = tree.apart }
 
 module _ (v : TreeValue) (tree : IsTree v.place) (page : ℕ) where
-  abbrev on_it : ℕ → Bool
+  abbrev pub on_it : ℕ → Bool
   on_it level = is_some (table_at v.place (on_path level page))
 
   -- above a table on the path stands another
-  up : (level : ℕ) → level < 4 → on_it level ≡ true → on_it (level + 1) ≡ true
+  pub up : (level : ℕ) → level < 4 → on_it level ≡ true → on_it (level + 1) ≡ true
   up level lower is = go (table_at v.place (on_path level page)) refl is
     where
       go : (o : Option ℕ) → table_at v.place (on_path level page) ≡ o → is_some o ≡ true → on_it (level + 1) ≡ true

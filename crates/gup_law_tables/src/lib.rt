@@ -5,13 +5,15 @@
 ghost use Rattle.std.specs.Prelude.{◌≡◌, ℕ, ◌<◌, ◌≤◌, ◌==◌, true, Bool, List, [], Some, None, IsSome};
 ghost use Rattle.gup_base.specs.declared.entry.Entry.{Entry};
 ghost use Rattle.gup_plain.specs.Event.{page_numbers};
-ghost use Rattle.gup_spec_tables.specs.Tables.{table_numbers, lacks, detachable};
+ghost use Rattle.gup_spec_tables.specs.Tables.{TreeValue, table_numbers, lacks, detachable};
+ghost use Rattle.gup_spec_tables.specs.Paths.{path_to};
 ghost use Rattle.gup_spec_events.specs.State.{CoreState, core_start};
 ghost use Rattle.gup_spec_events.specs.Event.{CoreEvent, Can, happens, run, tree_in, MayShape};
 ghost use Rattle.gup_spec_events.specs.Growth.{grows, has_enough, reclaims, retires};
 ghost use Rattle.gup_spec_events.specs.Invariant.{AllCan};
 ghost use Rattle.gup_law_base.specs.Sound.{IsSound};
-ghost use Rattle.gup_law_tables.specs.Standing.{TablesStand, has_table, IsSomewhere, IsButForTables, EntriesStand};
+ghost use Rattle.gup_law_tables.specs.Standing.{IsTree, TablesStand, has_table, IsSomewhere, IsButForTables, EntriesStand};
+ghost use Rattle.gup_law_tables.specs.Down.{IsDown};
 
 /// Each process has a tree of tables, and each table is free or of one process, which has it in its tree or has taken it out of
 /// that. An event leaves it so, and from the start on it is so after whatever events, each when it can happen.
@@ -51,6 +53,13 @@ pub fn no_table_is_lost()
     ensures run { (movable normal tables : ℕ) (needs_tables : Bool) (is_born : ℕ → Bool) (es : List CoreEvent) (table : ℕ) → AllCan (core_start movable normal tables needs_tables is_born) es → table < tables → IsSomewhere (run (core_start movable normal tables needs_tables is_born) es) table }
 {}
 
+/// No table comes from nowhere: one that is free after an event, or that a process has, was so before it. So from the start on there
+/// is none but those that were free then.
+pub fn no_table_is_made()
+    ensures event { (s : CoreState) (e : CoreEvent) (table : ℕ) → Can s e → IsSomewhere (happens s e) table → IsSomewhere s table }
+    ensures run { (movable normal tables : ℕ) (needs_tables : Bool) (is_born : ℕ → Bool) (es : List CoreEvent) (table : ℕ) → AllCan (core_start movable normal tables needs_tables is_born) es → IsSomewhere (run (core_start movable normal tables needs_tables is_born) es) table → table < tables }
+{}
+
 /// A page with an entry that lacks no table lacks none after whatever event: only empty tables are taken out.
 pub fn entries_keep_tables()
     ensures { (s : CoreState) (e : CoreEvent) (p page : ℕ) (entry : Entry) → TablesStand s → Can s e → s.entry p page ≡ Some entry → lacks (tree_in s p) page ≡ 0 → lacks (tree_in (happens s e) p) page ≡ 0 }
@@ -61,4 +70,10 @@ pub fn entries_keep_tables()
 pub fn entries_stand()
     ensures start { (movable normal tables : ℕ) (needs_tables : Bool) (is_born : ℕ → Bool) → EntriesStand (core_start movable normal tables needs_tables is_born) }
     ensures event { (s : CoreState) (e : CoreEvent) → IsSound s → TablesStand s → EntriesStand s → Can s e → EntriesStand (happens s e) }
+{}
+
+/// Down a page's path words lead from the root to each table that is there, one after another, and no further. Where a page with an entry
+/// lacks no table, the entry that is read at the end is the page's. So a walk beside which nothing happens reads what the page has.
+pub fn paths_lead_to_entries()
+    ensures { (v : TreeValue) (page : ℕ) → IsTree v.place → IsDown v page (path_to v page) }
 {}

@@ -5,6 +5,8 @@ use Rattle.gup_base.specs.declared.entry.Zone.{Zone}
 use Rattle.gup_base.specs.declared.entry.Want.{Want}
 use Rattle.std.proofs.lemmas.Bool.Decides.{nat_tests}
 use Rattle.gup_base.specs.declared.entry.Entry.{Entry}
+use Rattle.gup_base.specs.declared.entry.Rights.{Rights}
+use Rattle.gup_plain.specs.Event.{page_numbers}
 use Rattle.gup_plain.specs.State.{growing, Birth}
 use Rattle.gup_plain.specs.declared.note.What.{What}
 use Rattle.gup_plain.specs.declared.note.What.TheVariants.{Done}
@@ -20,7 +22,7 @@ use Rattle.gup_law_tables.proofs.KeptPaths.{added_full}
 use Rattle.gup_law_tables.proofs.TableRuns.{stand_run}
 use Rattle.gup_spec_journal.specs.Place.{Place, Doer, place_after}
 use Rattle.gup_spec_turns.specs.PinPlace.{StandsAtPage}
-use Rattle.gup_spec_turns.specs.TableTurns.{Spot, grows_at, fork_shrinks, shrinks_by, if_failed, releases_at}
+use Rattle.gup_spec_turns.specs.TableTurns.{Spot, grows_at, fork_shrinks, shrinks_by, if_failed, retires_mapped}
 use Rattle.gup_law_turns.specs.Standing.{CopyStands}
 use Rattle.gup_law_turns.proofs.TableLists.{AddsTables, adds_one_to, frees_all, OnlyAdds, grows_add, grows_are, tables_only}
 use Rattle.gup_law_turns.proofs.TurnShapes.{FitsFork, FitsMove, FitsOp}
@@ -93,15 +95,15 @@ growing_child : (u : CoreState) (a p child : ℕ) (place : Place) (job : Job) (p
 growing_child u a p child place (forking q c done (copying page word)) prepared fits copies = fits.1.0.birth
 growing_child u a p child place job prepared fits copies = absurd copies
 
-growing_keeps : (u : CoreState) (a p child : ℕ) (had : ℕ → Option Entry) (job : Job) → u.birth child ≡ growing p → fork_shrinks u a child had job ≡ []
-growing_keeps u a p child had (forking q d done step) grows = ap (λ (b : Birth). if_failed b (releases_at u a child had step)) grows
-growing_keeps u a p child had job grows = refl
+growing_keeps : (u : CoreState) (a p child : ℕ) (right : ℕ → Option Rights) (job : Job) → u.birth child ≡ growing p → fork_shrinks u a child right job ≡ []
+growing_keeps u a p child right (forking q d done step) grows = ap (λ (b : Birth). if_failed b (retires_mapped u a child right 0 page_numbers)) grows
+growing_keeps u a p child right job grows = refl
 
 fits_none_goes : (t u : CoreState) (who : Doer) (op : Op) (far : ℕ) (place : Place) → FitsOp u who op place → IsCopying u who.actor → shrinks_by t u who.actor who.proc far op ≡ []
 fits_none_goes t u who (Unmap page n) far place fits copies = absurd (rests_copy_none u who.actor fits.0.0 copies)
 fits_none_goes t u who Exit far place fits copies = absurd (rests_copy_none u who.actor fits.0 copies)
 fits_none_goes t u who (Fork child) far place fits copies =
-    growing_keeps u who.actor who.proc child (t.entry child) (t.job who.actor) (growing_child u who.actor who.proc child place (u.job who.actor) (u.prepared who.actor) fits.1 copies)
+    growing_keeps u who.actor who.proc child (u.right who.proc) (t.job who.actor) (growing_child u who.actor who.proc child place (u.job who.actor) (u.prepared who.actor) fits.1 copies)
 fits_none_goes t u who op far place fits copies = refl
 
 pub none_goes : (t u : CoreState) (who : Doer) (op : Op) (far : ℕ) (place : Place) (whats : List What) → FitsNext u who (Some op) place whats → IsCopying u who.actor → shrinks_by t u who.actor who.proc far op ≡ []

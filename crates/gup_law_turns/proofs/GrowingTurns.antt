@@ -23,11 +23,11 @@ use Rattle.gup_spec_turns.specs.Emptying.{emptying}
 use Rattle.gup_spec_turns.proofs.Unseen.{emptying_reads}
 use Rattle.gup_spec_turns.specs.PageTurns.{lowest_page, unmap_turn, exit_turn, exit_turn_by}
 use Rattle.gup_spec_turns.specs.PinPlace.{StandsAtPage}
-use Rattle.gup_spec_turns.specs.TableTurns.{Spot, spot, unless, if_mapped, if_writable, pinned_at, pin_grows, forks_grow, grown_by, grows_at, retires_at, retires_entries, releases, releases_at, if_failed, fork_shrinks, lowest_spot, shrinks_by}
+use Rattle.gup_spec_turns.specs.TableTurns.{Spot, spot, unless, if_mapped, if_writable, pinned_at, pin_grows, forks_grow, grown_by, grows_at, retires_at, retires_mapped, if_failed, fork_shrinks, lowest_spot, shrinks_by}
 use Rattle.gup_spec_turns.specs.Turn.{op_turn, unless_failed}
 use Rattle.gup_spec_turns.specs.Waits.{both_if, pin_locks, waits_for_locks, waits_born}
 use Rattle.gup_law_turns.proofs.ShownTurns.{both_free}
-use Rattle.gup_law_turns.proofs.TableLists.{grows_are, retires_are, at_are, releases_are, tables_only}
+use Rattle.gup_law_turns.proofs.TableLists.{grows_are, retires_are, mapped_are, all_mapped_are, tables_only}
 use Rattle.gup_law_turns.proofs.TabledTurns.{Shaped}
 use Rattle.gup_law_turns.proofs.TurnShapes.{FitsFork, FitsOp, IsOfProcess, child_of}
 
@@ -130,23 +130,16 @@ retired_can : (s : CoreState) (a p : ℕ) (at : Option Spot) → MayRetire s a p
 retired_can s a p None may = tt
 retired_can s a p (Some at) may = retires_can s a at.proc at.page may.0
 
-one_can : (s : CoreState) (a c page : ℕ) (none : Bool) → MayShape s a c → AllCan s (retires_at s a (unless none (spot c page)))
-one_can s a c page true may = tt
-one_can s a c page false may = retires_can s a c page may
+mapped_can : (s : CoreState) (a c page : ℕ) (right : Option Rights) → MayShape s a c → AllCan s (retires_at s a (if_mapped c page right))
+mapped_can s a c page None may = tt
+mapped_can s a c page (Some rights) may = retires_can s a c page may
 
-entries_can : (s : CoreState) (a c : ℕ) (had : ℕ → Option Entry) (first n : ℕ) → MayShape s a c → AllCan s (retires_entries s a c had first n)
-entries_can s a c had first zero may = tt
-entries_can s a c had first (suc n) may =
-    let none : Bool = not (is_some (had first)) in
-    let es : List CoreEvent = retires_at s a (unless none (spot c first)) in
-    can_behind s es (retires_entries (run s es) a c had (first + 1) n) (one_can s a c first none may)
-    (entries_can (run s es) a c had (first + 1) n (shape_after s (run s es) a c (tables_only s a c es (at_are s a c first none)) may))
-
-releases_can : (s : CoreState) (a c page : ℕ) (had : ℕ → Option Entry) → MayShape s a c → AllCan s (releases s a c page had)
-releases_can s a c page had may =
-    let es : List CoreEvent = retires s a c page in
-    can_behind s es (retires_entries (run s es) a c had 0 page_numbers) (retires_can s a c page may)
-    (entries_can (run s es) a c had 0 page_numbers (shape_after s (run s es) a c (tables_only s a c es (retires_are s a c page)) may))
+all_mapped_can : (s : CoreState) (a c : ℕ) (right : ℕ → Option Rights) (first n : ℕ) → MayShape s a c → AllCan s (retires_mapped s a c right first n)
+all_mapped_can s a c right first zero may = tt
+all_mapped_can s a c right first (suc n) may =
+    let es : List CoreEvent = retires_at s a (if_mapped c first (right first)) in
+    can_behind s es (retires_mapped (run s es) a c right (first + 1) n) (mapped_can s a c first (right first) may)
+    (all_mapped_can (run s es) a c right (first + 1) n (shape_after s (run s es) a c (tables_only s a c es (mapped_are s a c first (right first))) may))
 
 -- whose these tables are, and that their events can happen
 pub record Shrunk (s : CoreState) (a p c : ℕ) (es : List CoreEvent) : Type 0 where
@@ -161,18 +154,17 @@ unfailed_shrunk s a p c [] birth h = h
 unfailed_shrunk s a p c (e ∷ es) failed h = none_shrunk s a p c
 unfailed_shrunk s a p c (e ∷ es) birth h = h
 
-fork_shrunk : (s : CoreState) (a p c : ℕ) (had : ℕ → Option Entry) (job : Job) → Shrunk s a p c (fork_shrinks s a c had job)
-fork_shrunk s a p c had (forking q d done step) = by_birth (s.birth c) refl
+fork_shrunk : (s : CoreState) (a p c : ℕ) (right : ℕ → Option Rights) (job : Job) → Shrunk s a p c (fork_shrinks s a c right job)
+fork_shrunk s a p c right (forking q d done step) = by_birth (s.birth c) refl
   where
-    by_step : s.birth c ≡ failed → (step : ForkStep) → Shrunk s a p c (releases_at s a c had step)
-    by_step is (counted page) = record { shaped = record { proc = c; own = inr refl; are = releases_are s a c page had }; can = releases_can s a c page had (inr (inl is)) }
-    by_step is (copying page word) = record { shaped = record { proc = c; own = inr refl; are = releases_are s a c page had }; can = releases_can s a c page had (inr (inl is)) }
-    by_step is step = none_shrunk s a p c
-
-    by_birth : (birth : Birth) → s.birth c ≡ birth → Shrunk s a p c (if_failed birth (releases_at s a c had step))
-    by_birth failed is = by_step is step
+    by_birth : (birth : Birth) → s.birth c ≡ birth → Shrunk s a p c (if_failed birth (retires_mapped s a c right 0 page_numbers))
+    by_birth failed is =
+        record {
+          shaped = record { proc = c; own = inr refl; are = all_mapped_are s a c right 0 page_numbers };
+          can = all_mapped_can s a c right 0 page_numbers (inr (inl is));
+        }
     by_birth birth is = none_shrunk s a p c
-fork_shrunk s a p c had job = none_shrunk s a p c
+fork_shrunk s a p c right job = none_shrunk s a p c
 
 -- a page that goes, and its reference, leave its process born and unlocked
 module _ (t : CoreState) (a p page : ℕ) where
@@ -243,6 +235,6 @@ module _ (t : CoreState) (who : Doer) (place : Place) (slots : ℕ) (sound : IsS
       retired_shrunk u who.actor who.proc who.proc (lowest_spot who.proc (lowest_page (t.right who.proc)))
       (lowest_retires u who.actor who.proc (lowest_page (t.right who.proc)) may)
   shrunk_by (Fork child) birth fits free =
-      fork_shrunk (run t (emptying t who.actor (op_turn t who.actor who.proc slots place.far (Fork child))).events) who.actor who.proc child (t.entry child) (t.job who.actor)
+      fork_shrunk (run t (emptying t who.actor (op_turn t who.actor who.proc slots place.far (Fork child))).events) who.actor who.proc child ((run t (emptying t who.actor (op_turn t who.actor who.proc slots place.far (Fork child))).events).right who.proc) (t.job who.actor)
   shrunk_by op birth fits free =
       none_shrunk (run t (emptying t who.actor (op_turn t who.actor who.proc slots place.far op)).events) who.actor who.proc (child_of who.proc (Some op))

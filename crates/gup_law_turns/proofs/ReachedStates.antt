@@ -15,12 +15,17 @@ use Rattle.gup_script.specs.declared.op.Op.TheVariants.{Unmap, Discard, Pin, Unp
 use Rattle.gup_script.specs.Script.{ScriptValue}
 use Rattle.gup_script.specs.Valid.{IsScript, IsOp}
 use Rattle.gup_spec_events.specs.State.{CoreState, Taken, Job, idle, marking, moving, walking, forking, between, counted, copying}
-use Rattle.gup_spec_events.specs.Event.{bias}
-use Rattle.gup_spec_events.specs.Invariant.{Holds, entry_of_page, page_of_pin, got_as, got_frame, weight, frame_of, grabbed_frame}
+use Rattle.gup_spec_events.specs.Event.{CoreEvent, happens, run, bias}
+use Rattle.gup_spec_events.specs.Invariant.{AllCan, Holds, entry_of_page, page_of_pin, got_as, got_frame, weight, frame_of, grabbed_frame}
+use Rattle.gup_spec_events.proofs.Runs.{flag_after}
 use Rattle.gup_law_base.specs.Sound.{IsSound}
+use Rattle.gup_law_tables.specs.Standing.{TablesStand, EntriesStand, IsSomewhere}
+use Rattle.gup_law_tables.proofs.TableEvents.{stay}
+use Rattle.gup_law_tables.proofs.Paths.{first_paths, paths_stand}
+use Rattle.gup_law_tables.proofs.Nowhere.{none_made, not_made_run}
 use Rattle.gup_law_base.specs.Sound as sounds
 use Rattle.gup_spec_journal.specs.Denial.{References}
-use Rattle.gup_spec_journal.specs.Place.{Place, Doer, place_behind, ops_of, present_op, process_of, doer_of}
+use Rattle.gup_spec_journal.specs.Place.{Place, Doer, place_behind, ops_of, present_op, process_of, doer_of, starts_born}
 use Rattle.gup_plain.specs.Pages.{mapped_pages}
 use Rattle.gup_spec_turns.specs.PinPlace.{IsNoPin, HasTaken, HasPages, IsWithin, StandsAtPage, StandsPin, most_over}
 use Rattle.gup_spec_turns.specs.Cost.{pin_turns, walk_turns}
@@ -47,11 +52,15 @@ use Rattle.gup_script.specs.Limits.{most_pinned}
 abbrev pub HasAnswered : ScriptValue → ℕ → Place → Type 0
 HasAnswered script a place = place.answered ≤ length (ops_of script a)
 
--- what stands between two turns, which frames are prepared, and how much is answered
+-- what stands between two turns, which frames are prepared, how much is answered, that entries have their tables, and which tables
+-- there are
 pub record IsReached (script : ScriptValue) (r : RunState) : Type 0 where
   pub stands : Stands script r
   pub there : ArePreparedThere r.core
   pub answered : (a : ℕ) → HasAnswered script a (r.places a)
+  pub entries : EntriesStand r.core
+  pub needs : r.core.needs_tables ≡ true
+  pub few_tables : (table : ℕ) → IsSomewhere r.core table → table < script.frames.tables
 
 -- entries
 
@@ -288,6 +297,9 @@ is_standing published script valid r h =
       sound = k.sound;
       holds = published s k.sound;
       tables = k.tables;
+      entries = h.entries;
+      needs = h.needs;
+      few_tables = h.few_tables;
       copies = k.copies;
       declared = k.declared;
       mapped = λ p page e is. entry_mapped s p page e k.sound (k.emptied p page) is (s.right p page) refl;
@@ -332,14 +344,24 @@ answered_on script t {who = who} {place = place} (unborn_refused op birth first 
 answered_on script t {who = who} {place = place} (unborn_fork child birth own first) is within =
     (let one = slice_get_within (ops_of script who.actor) place.answered (Fork child) is in omega (arith, one))
 
+-- entries have their tables after events as before, since each event leaves a sound state
+entries_run : Law → (s : CoreState) (es : List CoreEvent) → IsSound s → TablesStand s → EntriesStand s → AllCan s es → EntriesStand (run s es)
+entries_run law s [] sound tables have can = have
+entries_run law s (e ∷ es) sound tables have can =
+    entries_run law (happens s e) es (law s e sound can.0).sound (stay s e tables can.0) (paths_stand s e sound tables have can.0) can.1
+
 pub reached_on : Law → (script : ScriptValue) → IsScript script → (r : RunState) → IsReached script r → (a : ℕ) → IsReached script (run_after script r a)
 reached_on law script valid r h a =
     let turn = taken script valid r h.stands a in
     let behind = place_behind (r.places a) (core_turn_in script r a).whats in
+    let events : List CoreEvent = (core_turn_in script r a).events in
     record {
       stands = stands_on law script valid r h.stands a;
-      there = there_on r.core a (doer_of script a (op_in script r a)).proc (child_of (doer_of script a (op_in script r a)).proc (op_in script r a)) (strand_of (op_in script r a)) (core_turn_in script r a).events turn.done.kinds turn.done.can h.there;
+      there = there_on r.core a (doer_of script a (op_in script r a)).proc (child_of (doer_of script a (op_in script r a)).proc (op_in script r a)) (strand_of (op_in script r a)) events turn.done.kinds turn.done.can h.there;
       answered = at_each (HasAnswered script) a behind r.places (answered_on script r.core turn.shape refl (h.answered a)) h.answered;
+      entries = entries_run law r.core events h.stands.sound h.stands.tables h.entries turn.done.can;
+      needs = flag_after r.core events ∙ h.needs;
+      few_tables = λ table is. h.few_tables table (not_made_run r.core events table turn.done.can is);
     }
 
 pub reaches : Law → Published → (script : ScriptValue) → IsScript script → (actors : List ℕ) → (r : RunState) → IsReached script r → IsStanding script (turned script r actors)
@@ -348,8 +370,12 @@ reaches law published script valid (a ∷ actors) r h = reaches law published sc
 
 pub starts_reached : Starts → (script : ScriptValue) → IsScript script → IsReached script (run_start script)
 starts_reached starts script valid =
+    let f = script.frames in
     record {
       stands = stands_first starts script valid;
       there = λ a f is. absurd (cc is);
       answered = λ a. omega arith;
+      entries = first_paths f.movable f.normal f.tables true (starts_born script);
+      needs = refl;
+      few_tables = λ table is. none_made f.movable f.normal f.tables true (starts_born script) table is;
     }

@@ -734,13 +734,13 @@ stands_first starts script valid =
     let unforked : (a k child : ℕ) → ForksAt script a k child → (run_start script).core.birth child ≡ unborn =
     λ a k child forks. starts_unborn (process_at script child) (child_is script valid a k child forks) in
     record {
-      sound = starts script.frames.movable script.frames.normal script.frames.tables false (starts_born script);
-      tables = first_stand script.frames.movable script.frames.normal script.frames.tables false (starts_born script) (few_tables script valid);
+      sound = starts script.frames.movable script.frames.normal script.frames.tables true (starts_born script);
+      tables = first_stand script.frames.movable script.frames.normal script.frames.tables true (starts_born script) (few_tables script valid);
       copies = λ a p c page word to done job. absurd (cc job);
       slots = λ m f filled. absurd (cc filled);
       there = λ f some. absurd (some refl);
       rest = λ a. record { prepared = refl; owed = refl };
-      few = few_first (length script.processes) script.frames.movable script.frames.normal script.frames.tables false (starts_born script);
+      few = few_first (length script.processes) script.frames.movable script.frames.normal script.frames.tables true (starts_born script);
       emptied = λ p page is. refl;
       declared = λ p. starts_declared script p (process_at script p) refl;
       fits = λ a. fresh_fits script valid (run_start script).core (doer_of script a (present_op script a first_place)) a 0 (refl, refl) (unforked a 0) (λ h makes. refl) (λ h holds. absurd (cc holds));

@@ -1,7 +1,6 @@
 -- The events of page tables in a turn: they change tables and nothing else, tell nothing, and invalidate no page.
 use Rattle.std.proofs.Common.{◌≡◌, ℕ, ◌==◌, ◌+◌, ◌||◌, not, is_some, Bool, true, false, if◌then◌else◌, List, [], ◌∷◌, ◌++◌, Option, Some, None, ◌⊎◌, zero, suc, refl, ap, ◌∙◌}
-use Rattle.gup_base.specs.declared.entry.Entry.{Entry}
-use Rattle.gup_plain.specs.Event.{page_numbers}
+use Rattle.gup_base.specs.declared.entry.Rights.{Rights}
 use Rattle.gup_spec_tables.specs.Tables.{lacks, detachable}
 use Rattle.gup_spec_events.specs.State.{CoreState}
 use Rattle.gup_spec_events.specs.Event.{CoreEvent, happens, run, tree_in, add_table, take_out, reclaim}
@@ -9,7 +8,7 @@ use Rattle.gup_spec_events.specs.Growth.{reclaims, lowest_table, adds_one, adds,
 use Rattle.gup_law_events.specs.Law.{all_told}
 use Rattle.gup_law_tables.specs.Standing.{IsButForTables}
 use Rattle.gup_spec_turns.specs.Emptying.{invalidate, invalidated_by, has_page}
-use Rattle.gup_spec_turns.specs.TableTurns.{spot, unless, retires_at, retires_entries, releases}
+use Rattle.gup_spec_turns.specs.TableTurns.{if_mapped, retires_at, retires_mapped}
 use Rattle.gup_law_turns.proofs.CalmStates.{Strand, AreTurnEvents, IsTurnEvent, adding, taking_table, reclaiming}
 
 -- of actor a, and of the tables of process q
@@ -95,21 +94,16 @@ retires_are s a q page =
     let t : CoreState = run s (takes_out s a q page 3) in
     are_behind a q (takes_out s a q page 3) (reclaims t a q) (takes_are s a q page 3) (adding_are a q (reclaims t a q) (reclaims_add t a q))
 
-pub at_are : (s : CoreState) (a q page : ℕ) (enough : Bool) → AreTableEvents a q (retires_at s a (unless enough (spot q page)))
-at_are s a q page true = tt
-at_are s a q page false = retires_are s a q page
+pub mapped_are : (s : CoreState) (a q page : ℕ) (right : Option Rights) → AreTableEvents a q (retires_at s a (if_mapped q page right))
+mapped_are s a q page None = tt
+mapped_are s a q page (Some rights) = retires_are s a q page
 
--- what is true of the events at each page that had an entry is true of them all
-pub entries_are : (s : CoreState) (a c : ℕ) (had : ℕ → Option Entry) (first n : ℕ) → AreTableEvents a c (retires_entries s a c had first n)
-entries_are s a c had first zero = tt
-entries_are s a c had first (suc n) =
-    let es : List CoreEvent = retires_at s a (unless (not (is_some (had first))) (spot c first)) in
-    are_behind a c es (retires_entries (run s es) a c had (first + 1) n) (at_are s a c first (not (is_some (had first)))) (entries_are (run s es) a c had (first + 1) n)
-
-pub releases_are : (s : CoreState) (a c page : ℕ) (had : ℕ → Option Entry) → AreTableEvents a c (releases s a c page had)
-releases_are s a c page had =
-    let t : CoreState = run s (retires s a c page) in
-    are_behind a c (retires s a c page) (retires_entries t a c had 0 page_numbers) (retires_are s a c page) (entries_are t a c had 0 page_numbers)
+-- what is true of the events at each mapped page is true of them all
+pub all_mapped_are : (s : CoreState) (a c : ℕ) (right : ℕ → Option Rights) (first n : ℕ) → AreTableEvents a c (retires_mapped s a c right first n)
+all_mapped_are s a c right first zero = tt
+all_mapped_are s a c right first (suc n) =
+    let es : List CoreEvent = retires_at s a (if_mapped c first (right first)) in
+    are_behind a c es (retires_mapped (run s es) a c right (first + 1) n) (mapped_are s a c first (right first)) (all_mapped_are (run s es) a c right (first + 1) n)
 
 -- what they do
 

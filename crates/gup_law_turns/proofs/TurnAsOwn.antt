@@ -1,21 +1,22 @@
 -- A turn is that of its operation by itself, but for page tables: in a state with other tables, and it leads to what that leads to.
 use Rattle.std.proofs.Common.{◌≡◌, ℕ, ◌+◌, List, [], ◌∷◌, ◌++◌, append-nil, Option, Some, None, refl, ap, ◌∙◌}
-use Rattle.gup_base.specs.declared.entry.Entry.{Entry}
+use Rattle.gup_base.specs.declared.entry.Rights.{Rights}
+use Rattle.gup_plain.specs.Event.{page_numbers}
 use Rattle.gup_plain.specs.State.{Birth, Noted, born, failed}
 use Rattle.gup_plain.specs.declared.note.What.TheVariants.{Idle, Wait}
 use Rattle.gup_plain.specs.declared.note.Waiting.{Waiting}
 use Rattle.gup_script.specs.declared.op.Op.{Op}
 use Rattle.gup_script.specs.declared.op.Op.TheVariants.{Unmap, Load, Store, Pin, Get, Mirror, Fork, Exit}
-use Rattle.gup_spec_events.specs.State.{CoreState, Job, forking, ForkStep, counted, copying}
+use Rattle.gup_spec_events.specs.State.{CoreState, Job, forking}
 use Rattle.gup_spec_events.specs.Event.{CoreEvent, run}
 use Rattle.gup_law_tables.specs.Standing.{IsButForTables}
 use Rattle.gup_spec_journal.specs.Place.{Doer, birth_for}
 use Rattle.gup_spec_turns.specs.CoreTurn.{CoreTurn}
 use Rattle.gup_spec_turns.specs.Emptying.{left_in}
 use Rattle.gup_spec_turns.specs.PageTurns.{lowest_page}
-use Rattle.gup_spec_turns.specs.TableTurns.{Spot, if_mapped, grown_by, grows_at, retires_at, releases_at, if_failed, fork_shrinks, lowest_spot, shrinks_by}
+use Rattle.gup_spec_turns.specs.TableTurns.{Spot, if_mapped, grown_by, grows_at, retires_at, retires_mapped, if_failed, fork_shrinks, lowest_spot, shrinks_by}
 use Rattle.gup_spec_turns.specs.Turn.{own_turn, unless_failed, grows_for, shrinks_for, behind_growth, turn_of}
-use Rattle.gup_law_turns.proofs.TableLists.{AreTableEvents, grows_are, retires_are, releases_are}
+use Rattle.gup_law_turns.proofs.TableLists.{AreTableEvents, grows_are, retires_are, all_mapped_are}
 use Rattle.gup_law_turns.proofs.TabledTurns.{at_first, at_last, left_alike}
 
 -- events of the tables of some process
@@ -34,23 +35,18 @@ retired_of_tables : (s : CoreState) (a : ℕ) (at : Option Spot) → OfTables a 
 retired_of_tables s a None = none_of_tables a
 retired_of_tables s a (Some at) = record { proc = at.proc; are = retires_are s a at.proc at.page }
 
-fork_of_tables : (s : CoreState) (a c : ℕ) (had : ℕ → Option Entry) (job : Job) → OfTables a (fork_shrinks s a c had job)
-fork_of_tables s a c had (forking q d done step) = by_birth (s.birth c)
+fork_of_tables : (s : CoreState) (a c : ℕ) (right : ℕ → Option Rights) (job : Job) → OfTables a (fork_shrinks s a c right job)
+fork_of_tables s a c right (forking q d done step) = by_birth (s.birth c)
   where
-    by_step : (step : ForkStep) → OfTables a (releases_at s a c had step)
-    by_step (counted page) = record { proc = c; are = releases_are s a c page had }
-    by_step (copying page word) = record { proc = c; are = releases_are s a c page had }
-    by_step step = none_of_tables a
-
-    by_birth : (birth : Birth) → OfTables a (if_failed birth (releases_at s a c had step))
-    by_birth failed = by_step step
+    by_birth : (birth : Birth) → OfTables a (if_failed birth (retires_mapped s a c right 0 page_numbers))
+    by_birth failed = record { proc = c; are = all_mapped_are s a c right 0 page_numbers }
     by_birth birth = none_of_tables a
-fork_of_tables s a c had job = none_of_tables a
+fork_of_tables s a c right job = none_of_tables a
 
 shrunk_of_tables : (s t : CoreState) (a p far : ℕ) (op : Op) → OfTables a (shrinks_by s t a p far op)
 shrunk_of_tables s t a p far (Unmap page n) = retired_of_tables t a (if_mapped p (page + far) (s.right p (page + far)))
 shrunk_of_tables s t a p far Exit = retired_of_tables t a (lowest_spot p (lowest_page (s.right p)))
-shrunk_of_tables s t a p far (Fork child) = fork_of_tables t a child (s.entry child) (s.job a)
+shrunk_of_tables s t a p far (Fork child) = fork_of_tables t a child (t.right p) (s.job a)
 shrunk_of_tables s t a p far op = none_of_tables a
 
 unfailed_of_tables : (a : ℕ) (es : List CoreEvent) (birth : Birth) → OfTables a es → OfTables a (unless_failed es birth)

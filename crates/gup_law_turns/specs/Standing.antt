@@ -15,7 +15,7 @@ use Rattle.gup_spec_events.specs.State.{CoreState, Taken, WalkStep, idle, forkin
 use Rattle.gup_spec_events.specs.Event.{bias, has_tables}
 use Rattle.gup_spec_events.specs.Invariant.{Holds, grabbed_frame}
 use Rattle.gup_law_base.specs.Sound.{IsSound}
-use Rattle.gup_law_tables.specs.Standing.{TablesStand}
+use Rattle.gup_law_tables.specs.Standing.{TablesStand, EntriesStand, IsSomewhere}
 use Rattle.gup_spec_journal.specs.Place.{ops_of, present_op, process_of}
 use Rattle.gup_plain.specs.Pages.{mapped_pages}
 use Rattle.gup_spec_turns.specs.Run.{RunState}
@@ -49,20 +49,24 @@ CopyStands s a =
     (p c page word to : ℕ) (done : List ℕ) → s.job a ≡ forking p c done (copying page word) → s.prepared a ≡ Some to
     → has_tables s c page ≡ true
 
--- The core state is sound, and all that is published of core states holds of it; each page table is free or of one process, and
--- a page that is copied has its tables. Those that are not unborn are declared. Each
--- entry is of a mapped page, and its frame has a reference. No actor but one that forks, moves, walks or pins for long is in the
--- middle of anything, and none at the first turn of its operation; none but one that pins has taken pages, and none but one that
--- copies a page has prepared a frame. A pin has had no more turns than its walk and its pages take. An operation that goes over
--- pages or words stands at one of them, an unpin has given back fewer than the most pages of a pin, and no actor has answered
--- more operations than it has. Pins and references are of declared handles. The weight of each page of a pin is in the count of its
--- frame, also of one that is taken or that a walk has grabbed, and so is that of a reference; the handle of a pin or a reference
--- that isn't answered is unmade. Counts and sequences stay small, and so do the walks that run in a process: an actor that walks is
--- one of them.
+-- The core state is sound, and all that is published of core states holds of it; each page table is free or of one process.
+-- Entries need tables: each page with an entry lacks none, and neither does one whose entry is cleared to be moved. A table
+-- that is free, or that a process has, is one of those that the script says there are. A page that is copied has its tables.
+-- Processes that are not unborn are declared. Each entry is of a mapped page, and its frame has a reference. No actor but one
+-- that forks, moves, walks or pins for long is in the middle of anything, and none at the first turn of its operation; none but
+-- one that pins has taken pages, and none but one that copies a page has prepared a frame. A pin has had no more turns than its
+-- walk and its pages take. An operation that goes over pages or words stands at one of them, an unpin has given back fewer than
+-- the most pages of a pin, and no actor has answered more operations than it has. Pins and references are of declared handles.
+-- The weight of each page of a pin is in the count of its frame, also of one that is taken or that a walk has grabbed, and so
+-- is that of a reference; the handle of a pin or a reference that isn't answered is unmade. Counts and sequences stay small,
+-- and so do the walks that run in a process: an actor that walks is one of them.
 pub record IsStanding (script : ScriptValue) (r : RunState) : Type 0 where
   pub sound : IsSound r.core
   pub holds : Holds r.core
   pub tables : TablesStand r.core
+  pub entries : EntriesStand r.core
+  pub needs : r.core.needs_tables ≡ true
+  pub few_tables : (table : ℕ) → IsSomewhere r.core table → table < script.frames.tables
   pub copies : (a : ℕ) → CopyStands r.core a
   pub declared : (p : ℕ) → (r.core.birth p ≡ unborn → ⊥) → p < length script.processes
   pub mapped : (p page : ℕ) (e : Entry) → r.core.entry p page ≡ Some e → IsSome (r.core.right p page)

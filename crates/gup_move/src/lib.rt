@@ -11,7 +11,7 @@ ghost use Rattle.gup_base.specs.declared.entry.Allowed.{Allowed as AllowedValue}
 ghost use Rattle.gup_frames.specs.Frames.{FrameLists, frames_of, free_frame, IsFrame};
 ghost use Rattle.gup_spec_events.specs.State.{Counted};
 ghost use Rattle.gup_spec_events.specs.Event.{clear_entry, count_moved, restore_entry, entry_of};
-ghost use Rattle.gup_space.specs.Space.{SpaceParts, space_of, with_entry, HasRoom};
+ghost use Rattle.gup_space.specs.Space.{SpaceParts, space_of, with_entry, lacking};
 ghost use Rattle.gup_space.specs.Shows.{change_of};
 ghost use Rattle.gup_move.specs.Moves.{with_table, AreMoveEvents, moved, IsOfZones, places};
 
@@ -48,8 +48,8 @@ pub fn count(frames: &Frames, was: Entry) -> u64
     frames.count(was.frame)
 }
 
-/// Moves the page, whose entry was cleared and whose frame had the count 1, to the lowest free frame of the zones
-/// allowed. That frame gets the words and the mark of the old one, the page gets an entry of it with the old right to
+/// Moves the page, whose entry was cleared, which has all four page tables of its path, and whose frame had the count 1, to
+/// the lowest free frame of the zones allowed. That frame gets the words and the mark of the old one, the page gets an entry of it with the old right to
 /// write, and the old frame has a reference less (of Linux's `migrate_folio_move` and `remove_migration_pte`; that
 /// the frame is taken after the count was read is this project's own, Linux takes it before it clears the entry). Who
 /// moves frees the table lock with it.
@@ -64,7 +64,7 @@ pub fn place(
 ) -> Result<(), NoFrame>
     requires mapped { IsSome ((space_of space.old).right page) }
     requires absent { (space_of space.old).entry page ≡ None }
-    requires room { HasRoom (space_of space.old) page }
+    requires path { lacking (space_of space.old) page ≡ 0 }
     requires there { IsFrame (frames_of frames.old) was.frame }
     requires held { (frames_of frames.old).count was.frame ≡ 0 → ⊥ }
     ensures refused { is_err result ≡ is_none (free_frame (frames_of frames.old) allowed) }
@@ -97,13 +97,13 @@ pub fn place(
     Ok(())
 }
 
-/// Puts the entry back that was cleared, where the page isn't moved (of Linux's `migrate_folio_undo_src`). Who moves
-/// frees the table lock with it.
+/// Puts the entry back that was cleared, where the page isn't moved; the page still has all four page tables of its path (of
+/// Linux's `migrate_folio_undo_src`). Who moves frees the table lock with it.
 #[inline]
 pub fn restore(space: &mut Space, page: PageNo, was: Entry)
     requires mapped { IsSome ((space_of space.old).right page) }
     requires absent { (space_of space.old).entry page ≡ None }
-    requires room { HasRoom (space_of space.old) page }
+    requires path { lacking (space_of space.old) page ≡ 0 }
     ensures space { space_of space.new ≡ with_entry page (Some was) (space_of space.old) }
     ensures events { (a : ℕ) (frames : FrameLists) (allowed : AllowedValue) (count : Counted) → AreMoveEvents
         (with_table None (change_of frames frames space.old space.new))

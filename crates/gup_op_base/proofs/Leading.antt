@@ -24,7 +24,7 @@ notes_alike {X} {Shows} {Stands} {old} {new} {turn} {whats} {other} same h =
 -- a state of these frames, in which each process is this one
 abbrev pub state_of : FramesValue → SpaceValue → CoreState
 state_of F S =
-    record (core_start F.movable F.normal 0 false (λ _. true)) {
+    record (core_start F.movable F.normal 0 true (λ _. true)) {
       count = F.count;
       mark = F.mark;
       word = F.word;
@@ -36,6 +36,8 @@ state_of F S =
       structure = λ _. S.structure;
       table = λ _. S.table;
       walks = λ _. S.walks;
+      place = λ _. S.place;
+      retired = λ _. S.retired;
     }
 
 pub has_frames : (F : FramesValue) (S : SpaceValue) → ShowsFrames F (state_of F S)
@@ -52,6 +54,8 @@ has_space F S p =
       structure = refl;
       table = refl;
       walks = refl;
+      place = refl;
+      retired = refl;
     }
 
 -- a clause on the one side of a result, where it is on that side

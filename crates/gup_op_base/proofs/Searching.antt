@@ -1,14 +1,18 @@
 -- What a search finds depends on its test's answers alone.
-use Rattle.std.proofs.Common.{◌≡◌, ℕ, ◌+◌, ◌==◌, ◌||◌, if◌then◌else◌, Bool, cond, true, false, Some, None, refl, sym, ap, ◌∙◌, zero, suc}
+use Rattle.std.proofs.Common.{◌≡◌, ℕ, ◌+◌, ◌==◌, ◌||◌, if◌then◌else◌, Bool, cond, true, false, Option, Some, None, refl, sym, ap, ◌∙◌, zero, suc}
 use Rattle.gup_base.specs.declared.entry.Allowed.{Allowed}
 use Rattle.gup_base.specs.declared.entry.Allowed.TheVariants.{Any, Only}
 use Rattle.gup_base.specs.declared.entry.Zone.TheVariants.{Movable, Normal}
 use Rattle.gup_plain.specs.Put.{lowest}
 use Rattle.gup_plain.specs.Denial.{any_below}
 use Rattle.gup_frames.specs.Frames.{FramesValue, frames_in, free_from, free_frame}
-use Rattle.gup_space.specs.Shows.{ShowsFrames}
+use Rattle.gup_space.specs.Space.{SpaceValue, lacking}
+use Rattle.gup_space.specs.Found.{found_for}
+use Rattle.gup_space.specs.Shows.{ShowsFrames, ShowsSpace}
+use Rattle.gup_spec_tables.specs.Tables.{lacks}
+use Rattle.gup_spec_tables.specs.declared.place.Place.{Place}
 use Rattle.gup_spec_events.specs.State.{CoreState}
-use Rattle.gup_spec_events.specs.Event.{has_tables}
+use Rattle.gup_spec_events.specs.Event.{has_tables, tree_in}
 use Rattle.gup_spec_turns.specs.CoreTurn.{free_in, frame_for, free_from as free_from_in}
 
 pub lowest_same : (first n : ℕ) (test other : ℕ → Bool) → ((k : ℕ) → test k ≡ other k) → lowest first n test ≡ lowest first n other
@@ -48,14 +52,17 @@ free_agrees frames (Only Normal) s h =
     ∙ ap (λ m. free_from frames m s.normal) h.movable
     ∙ ap (λ n. free_from frames frames.movable n) h.normal
 
--- a page lacks no table where entries need none
-pub tables_agree : (frames : FramesValue) (p page : ℕ) (s : CoreState) → ShowsFrames frames s → has_tables s p page ≡ true
-tables_agree frames p page s h = rw h.needs_tables
+-- a page has its tables in the state exactly where it lacks none in the process that the state shows
+pub tables_agree : (frames : FramesValue) (space : SpaceValue) (p page : ℕ) (s : CoreState) → ShowsFrames frames s → ShowsSpace p space s → has_tables s p page ≡ (lacking space page == 0)
+tables_agree frames space p page s h shown =
+    ap (λ (needs : Bool). if needs then lacks (tree_in s p) page == 0 else true) h.needs_tables
+    ∙ ap (λ (place : ℕ → Option Place). lacks (record { entry = s.entry p; place = place; tables = 0; room = 0 }) page == 0) shown.place
 
--- and the frame for it is the free one
-pub frame_agrees : (frames : FramesValue) (p page : ℕ) (allowed : Allowed) (s : CoreState) → ShowsFrames frames s → frame_for s p page allowed ≡ free_frame frames allowed
-frame_agrees frames p page allowed s h =
-    ap (λ (may : Bool). if may then free_in s allowed else None) (tables_agree frames p page s h) ∙ free_agrees frames allowed s h
+-- and the frame for it is the one that is found there
+pub frame_agrees : (frames : FramesValue) (space : SpaceValue) (p page : ℕ) (allowed : Allowed) (s : CoreState) → ShowsFrames frames s → ShowsSpace p space s → frame_for s p page allowed ≡ found_for frames space page allowed
+frame_agrees frames space p page allowed s h shown =
+    ap (λ (may : Bool). if may then free_in s allowed else None) (tables_agree frames space p page s h shown)
+    ∙ ap (λ (free : Option ℕ). if lacking space page == 0 then free else None) (free_agrees frames allowed s h)
 
 pub any_same : (n : ℕ) (test other : ℕ → Bool) → ((k : ℕ) → test k ≡ other k) → any_below n test ≡ any_below n other
 any_same zero test other same = refl

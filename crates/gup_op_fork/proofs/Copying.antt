@@ -1,6 +1,6 @@
 -- What a turn of a fork that copies a page, or fails, makes of frames, the parent and the child is the turn table's.
 use Rattle.std.proofs.Common.{◌≡◌, ℕ, ◌+◌, ◌<◌, ◌≤◌, ◌&&◌, not, is_some, Bool, true, false, List, [], ◌∷◌, ◌++◌, Option, Some, None, IsSome, refl, ap, sym, subst, ◌∙◌, zero, suc, arith}
-use Rattle.std.specs.Prelude.{nat_lt}
+use Rattle.std.specs.Prelude.{◌==◌, nat_lt}
 use Rattle.std.proofs.lemmas.Bool.Decides.{nat_tests}
 use Rattle.gup_base.specs.declared.entry.Allowed.TheVariants.{Any}
 use Rattle.gup_base.specs.declared.entry.Entry.{Entry}
@@ -11,22 +11,24 @@ use Rattle.gup_plain.specs.State.{growing, failed}
 use Rattle.gup_plain.specs.declared.answer.Answer.TheVariants as answers
 use Rattle.gup_plain.specs.declared.event.PlainEvent.TheVariants as events
 use Rattle.gup_plain.specs.declared.note.What.TheVariants.{Silent, Event, Done}
-use Rattle.gup_frames.specs.Frames.{FramesValue, free_frame, taken}
-use Rattle.gup_space.specs.Space.{SpaceValue}
+use Rattle.gup_frames.specs.Frames.{FramesValue, taken}
+use Rattle.gup_space.specs.Space.{SpaceValue, lacking}
+use Rattle.gup_space.specs.Found.{found_for}
 use Rattle.gup_space.specs.Shows.{ShowsFrames}
 use Rattle.gup_space.proofs.After.{taking}
 use Rattle.gup_space.proofs.ShowsLemmas.{shows_frames, shows_space}
 use Rattle.gup_fork.specs.Forks.{ForkChange, AreForkEvents}
 use Rattle.gup_spec_events.specs.State.{CoreState, Job, idle, marking, moving, forking, walking, ForkStep, between, counted, lowered, cleared, copying, failing}
-use Rattle.gup_spec_events.specs.Event.{CoreEvent, happens, take_frame, copy_word, place_child, fail_fork, put_child, run}
+use Rattle.gup_spec_events.specs.Event.{CoreEvent, happens, take_frame, copy_word, place_child, fail_fork, put_child, run, has_tables}
 use Rattle.gup_spec_events.specs.Failure.{are_gone, fails, puts_entry, puts_entries}
 use Rattle.gup_spec_events.proofs.Gone.{no_puts}
-use Rattle.gup_spec_turns.specs.ForkTurns.{fork_turn, frame_turn, copy_turn, copying_turn, rights_in}
+use Rattle.gup_spec_turns.specs.ForkTurns.{fork_turn, share_turn, failed_at, frame_turn, copy_turn, copying_turn, rights_in}
 use Rattle.gup_spec_turns.specs.CoreTurn.{entry_in}
-use Rattle.gup_spec_turns.specs.JobPlace.{unbegun, from_page, wants_frame, at_word, copying_place, job_place, StandsFork}
+use Rattle.gup_spec_turns.specs.JobPlace.{JobPlace, unbegun, from_page, at_page, wants_frame, at_word, copying_place, job_place, StandsFork}
 use Rattle.gup_op_base.proofs.Leading.{leads_alike}
-use Rattle.gup_op_base.proofs.Searching.{frame_agrees}
-use Rattle.gup_op_fork.proofs.Forking.{IsForking, change, leads_there, put_here, notes_alike}
+use Rattle.gup_op_base.proofs.Searching.{tables_agree, frame_agrees}
+use Rattle.gup_op_fork.proofs.Forking.{IsForking, LeadsOn, change, leads_there, put_here, not_copying, notes_alike}
+use Rattle.gup_op_fork.specs.Forked.{IsHeldUp}
 use Rattle.gup_spec_events.proofs.Runs.{run_behind}
 
 -- ---- a fork that copies a page
@@ -96,14 +98,14 @@ copies_on s a p c page word job prepared is here =
 
 -- ---- its frame
 
-pub frame_taken : (F F' : FramesValue) (P C : SpaceValue) (a p c page to : ℕ) → free_frame F Any ≡ Some to → F' ≡ taken to F → IsForking (change F F' P P C C) a p c (wants_frame page) (at_word page 0 to) (growing p) (Silent ∷ [])
+pub frame_taken : (F F' : FramesValue) (P C : SpaceValue) (a p c page to : ℕ) → found_for F C page Any ≡ Some to → F' ≡ taken to F → IsForking (change F F' P P C C) a p c (wants_frame page) (at_word page 0 to) (growing p) (Silent ∷ [])
 frame_taken F F' P C a p c page to free is birth s shown fork =
     let both = wants_one s a p c page (s.job a) (s.prepared a) fork.at shown.place in
     let here = both.1 in
     let behind : CoreState = happens s (take_frame a to) in
     leads_alike {turn = record { events = take_frame a to ∷ []; whats = Silent ∷ [] }}
     (copies_on s a p c page 0 (s.job a) None both.0 here
-    ∙ ap (λ o. frame_turn s a p c here.done page 0 o) (frame_agrees F c page Any s shown.frames ∙ free))
+    ∙ ap (λ o. frame_turn s a p c here.done page 0 o) (frame_agrees F C c page Any s shown.frames shown.child ∙ free))
     (record {
       says = refl;
       shown = record {
@@ -242,16 +244,60 @@ failed_place a p c done step entry s =
     ap (λ j. job_place j ((run s (fails a p c done step entry)).prepared a))
     (failed_job a p c done step entry page_numbers s (are_gone entry 0 page_numbers) refl)
 
-pub fork_failed : (k : ForkChange) (a p c page : ℕ) → free_frame k.old_frames Any ≡ None → ((done : List ℕ) → AreForkEvents k (λ q d. fails a q d done (copying page 0) k.old_child.entry)) → IsForking k a p c (wants_frame page) unbegun failed (Event (events.ForkFail c) ∷ Done answers.NoFrame ∷ [])
-fork_failed k a p c page none made birth s shown fork =
+-- the turn of a failure at this step
+failed_alike : (a p c : ℕ) (done : List ℕ) (step : ForkStep) (entry : ℕ → Option Entry) (s : CoreState) → ((page : ℕ) → s.entry c page ≡ entry page) → failed_at s a p c done step ≡ record { events = fails a p c done step entry; whats = Event (events.ForkFail c) ∷ Done answers.NoFrame ∷ [] }
+failed_alike a p c done step entry s same =
+    ap (λ es. record { events = es; whats = Event (events.ForkFail c) ∷ Done answers.NoFrame ∷ [] }) (fails_alike a p c done step (s.entry c) entry same)
+
+-- a page that is to be copied, for which no frame is found
+copy_failed : (k : ForkChange) (a p c page : ℕ) → found_for k.old_frames k.old_child page Any ≡ None → ((done : List ℕ) → AreForkEvents k (λ q d. fails a q d done (copying page 0) k.old_child.entry)) → IsForking k a p c (wants_frame page) unbegun failed (Event (events.ForkFail c) ∷ Done answers.NoFrame ∷ [])
+copy_failed k a p c page none made birth s shown fork =
     let both = wants_one s a p c page (s.job a) (s.prepared a) fork.at shown.place in
     let here = both.1 in
     let entry : ℕ → Option Entry = k.old_child.entry in
     let behind = made here.done s p c fork.apart shown.frames shown.parent shown.child in
     leads_alike {turn = record { events = fails a p c here.done (copying page 0) entry; whats = Event (events.ForkFail c) ∷ Done answers.NoFrame ∷ [] }}
     (copies_on s a p c page 0 (s.job a) None both.0 here
-    ∙ ap (λ o. frame_turn s a p c here.done page 0 o) (frame_agrees k.old_frames c page Any s shown.frames ∙ none)
-    ∙ ap (λ es. record { events = es; whats = Event (events.ForkFail c) ∷ Done answers.NoFrame ∷ [] }) (fails_alike a p c here.done (copying page 0) (s.entry c) entry shown.child.entry))
+    ∙ ap (λ o. frame_turn s a p c here.done page 0 o) (frame_agrees k.old_frames k.old_child c page Any s shown.frames shown.child ∙ none)
+    ∙ failed_alike a p c here.done (copying page 0) entry s shown.child.entry)
     (leads_there k refl behind
     (failed_place a p c here.done (copying page 0) entry s)
     (failed_birth a p c here.done (copying page 0) entry s))
+
+lacks_some : (n : ℕ) → (n ≡ 0 → ⊥) → (n == 0) ≡ false
+lacks_some n some = grind (arith, nat_tests, some)
+
+-- a page that is to be shared, for which the child lacks a table
+share_failed : (k : ForkChange) (a p c page : ℕ) → (lacking k.old_child page ≡ 0 → ⊥) → ((done : List ℕ) → AreForkEvents k (λ q d. fails a q d done (counted page) k.old_child.entry)) → IsForking k a p c (at_page page) unbegun failed (Event (events.ForkFail c) ∷ Done answers.NoFrame ∷ [])
+share_failed k a p c page some made birth s shown fork = go (s.job a) fork.at shown.place
+  where
+    same_page : (m n : ℕ) → at_page m ≡ at_page n → m ≡ n
+    same_page m n same = cc
+
+    go : (job : Job) → StandsFork s a p c job (s.prepared a) → job_place job (s.prepared a) ≡ at_page page → LeadsOn k a p c s (fork_turn s a p c job) unbegun failed (Event (events.ForkFail c) ∷ Done answers.NoFrame ∷ [])
+    go (forking q d done (counted g)) stands place =
+        let entry : ℕ → Option Entry = k.old_child.entry in
+        let behind = made done s p c fork.apart shown.frames shown.parent shown.child in
+        leads_alike {turn = record { events = fails a p c done (counted page) entry; whats = Event (events.ForkFail c) ∷ Done answers.NoFrame ∷ [] }}
+        (ap (λ h. share_turn s a p c done h (s.entry p h) (has_tables s c h)) (same_page g page place)
+        ∙ ap (share_turn s a p c done page (s.entry p page)) (tables_agree k.old_frames k.old_child c page s shown.frames shown.child ∙ lacks_some (lacking k.old_child page) some)
+        ∙ failed_alike a p c done (counted page) entry s shown.child.entry)
+        (leads_there k refl behind (failed_place a p c done (counted page) entry s) (failed_birth a p c done (counted page) entry s))
+    go idle stands place = absurd (cc)
+    go (forking q d done between) stands place = absurd (cc)
+    go (forking q d done (lowered g)) stands place = absurd stands
+    go (forking q d done (cleared g)) stands place = absurd stands
+    go (forking q d done (copying g n)) stands place = absurd (not_copying g n (s.prepared a) (at_page page) refl place)
+    go (forking q d done failing) stands place = absurd stands
+    go (marking q g f) stands place = absurd stands
+    go (moving q g e allowed count) stands place = absurd stands
+    go (walking q write long sequence step) stands place = absurd stands
+
+-- a fork that can't go on where it stands
+pub fork_failed : (k : ForkChange) (a p c : ℕ) (place : JobPlace) → IsHeldUp k.old_frames place k.old_child
+    → ((page : ℕ) (done : List ℕ) → AreForkEvents k (λ q d. fails a q d done (counted page) k.old_child.entry))
+    → ((page : ℕ) (done : List ℕ) → AreForkEvents k (λ q d. fails a q d done (copying page 0) k.old_child.entry))
+    → IsForking k a p c place unbegun failed (Event (events.ForkFail c) ∷ Done answers.NoFrame ∷ [])
+fork_failed k a p c (at_page page) held shares copies = share_failed k a p c page held (λ done. shares page done)
+fork_failed k a p c (wants_frame page) held shares copies = copy_failed k a p c page held (λ done. copies page done)
+fork_failed k a p c place held shares copies = absurd held

@@ -1,6 +1,6 @@
 -- What a turn of a fork makes of frames, the parent and the child is the turn table's.
 use Rattle.std.proofs.Common.{◌≡◌, ℕ, ◌+◌, ◌-◌, ◌^◌, ◌<◌, ◌≤◌, ◌&&◌, Bool, true, false, if◌then◌else◌, MatchOption, List, [], ◌∷◌, Option, Some, None, IsSome, is_some, refl, ap, sym, subst, ◌∙◌, arith}
-use Rattle.std.specs.Prelude.{nat_le}
+use Rattle.std.specs.Prelude.{◌==◌, nat_le}
 use Rattle.std.proofs.lemmas.Bool.{false≢true}
 use Rattle.std.proofs.lemmas.Bool.Decides.{nat_tests}
 use Rattle.gup_base.specs.declared.entry.Entry.{Entry}
@@ -13,7 +13,7 @@ use Rattle.gup_plain.specs.declared.event.PlainEvent.TheVariants as events
 use Rattle.gup_plain.specs.declared.note.What.{What}
 use Rattle.gup_plain.specs.declared.note.What.TheVariants.{Silent, Event, Done}
 use Rattle.gup_frames.specs.Frames.{FramesValue}
-use Rattle.gup_space.specs.Space.{SpaceValue}
+use Rattle.gup_space.specs.Space.{SpaceValue, lacking}
 use Rattle.gup_space.specs.Shows.{ShowsFrames, ShowsSpace}
 use Rattle.gup_fork.specs.Forks.{ForkChange, AreForkEvents, copies_frame, shares}
 use Rattle.gup_fork.proofs.ForkAfter.{counting, passing}
@@ -71,7 +71,7 @@ is_copying (wants_frame page) = true
 is_copying (at_word page word to) = true
 is_copying place = false
 
-not_copying : (page word : ℕ) (prepared : Option ℕ) (place : JobPlace) → is_copying place ≡ false → copying_place page word prepared ≡ place → ⊥
+pub not_copying : (page word : ℕ) (prepared : Option ℕ) (place : JobPlace) → is_copying place ≡ false → copying_place page word prepared ≡ place → ⊥
 not_copying page word None place other is = false≢true (sym other ∙ ap is_copying (sym is))
 not_copying page word (Some to) place other is = false≢true (sym other ∙ ap is_copying (sym is))
 
@@ -216,8 +216,8 @@ count_turned F P P' C a p c from page e copied found entry is locked birth s sho
 
 -- ---- the share of a page
 
-page_shared : (k : ForkChange) (a p c page : ℕ) (e : Entry) → k.old_parent.entry page ≡ Some e → ((done : List ℕ) → AreForkEvents k (λ q d. shares a q d done page e)) → IsForking k a p c (at_page page) (from_page (page + 1)) (growing p) (Event (events.ForkPage p c page) ∷ [])
-page_shared k a p c page e entry made birth s shown fork = go (s.job a) fork.at shown.place
+page_shared : (k : ForkChange) (a p c page : ℕ) (e : Entry) → lacking k.old_child page ≡ 0 → k.old_parent.entry page ≡ Some e → ((done : List ℕ) → AreForkEvents k (λ q d. shares a q d done page e)) → IsForking k a p c (at_page page) (from_page (page + 1)) (growing p) (Event (events.ForkPage p c page) ∷ [])
+page_shared k a p c page e path entry made birth s shown fork = go (s.job a) fork.at shown.place
   where
     same_page : (m n : ℕ) → at_page m ≡ at_page n → m ≡ n
     same_page m n same = cc
@@ -228,7 +228,7 @@ page_shared k a p c page e entry made birth s shown fork = go (s.job a) fork.at 
         leads_alike
         (ap (λ h. share_turn s a p c done h (s.entry p h) (has_tables s c h)) (same_page g page place)
         ∙ ap (λ o. share_turn s a p c done page o (has_tables s c page)) (shown.parent.entry page ∙ entry)
-        ∙ ap (share_turn s a p c done page (Some e)) (tables_agree k.old_frames c page s shown.frames))
+        ∙ ap (share_turn s a p c done page (Some e)) (tables_agree k.old_frames k.old_child c page s shown.frames shown.child ∙ ap (λ n. n == 0) path))
         (leads_there k refl behind
         (ap (λ j. job_place j (s.prepared a)) (put_here a (forking p c (page ∷ done) between) (put a (forking p c done (cleared page)) (put a (forking p c done (lowered page)) s.job))))
         stands.0.birth)
@@ -269,9 +269,9 @@ pub other_parent : (F F' : FramesValue) (P P' P'' C C' : SpaceValue) (events : (
 other_parent F F' P P' P'' C C' events same h =
     subst (λ (x : SpaceValue). AreForkEvents (change F F' P x C C') events) (sym same) h
 
-pub share_turned : (k : ForkChange) (a p c page : ℕ) → IsSome (k.old_parent.entry page) → ((done : List ℕ) (e : Entry) → k.old_parent.entry page ≡ Some e → AreForkEvents k (λ q d. shares a q d done page e)) → IsForking k a p c (at_page page) (from_page (page + 1)) (growing p) (Event (events.ForkPage p c page) ∷ [])
-share_turned k a p c page some made = go (k.old_parent.entry page) refl some
+pub share_turned : (k : ForkChange) (a p c page : ℕ) → lacking k.old_child page ≡ 0 → IsSome (k.old_parent.entry page) → ((done : List ℕ) (e : Entry) → k.old_parent.entry page ≡ Some e → AreForkEvents k (λ q d. shares a q d done page e)) → IsForking k a p c (at_page page) (from_page (page + 1)) (growing p) (Event (events.ForkPage p c page) ∷ [])
+share_turned k a p c page path some made = go (k.old_parent.entry page) refl some
   where
     go : (entry : Option Entry) → k.old_parent.entry page ≡ entry → IsSome entry → IsForking k a p c (at_page page) (from_page (page + 1)) (growing p) (Event (events.ForkPage p c page) ∷ [])
     go None entry some = absurd (cc)
-    go (Some e) entry some = page_shared k a p c page e entry (λ done. made done e entry)
+    go (Some e) entry some = page_shared k a p c page e path entry (λ done. made done e entry)

@@ -2,9 +2,11 @@
 use Rattle.std.specs.Prelude.{◌≡◌, ℕ, ◌≤◌, Bool, true, false, Some, None, IsSome}
 use Rattle.gup_plain.specs.Event.{words}
 use Rattle.gup_plain.specs.State.{Birth, growing, born, failed}
+use Rattle.gup_base.specs.declared.entry.Allowed.TheVariants.{Any}
 use Rattle.gup_base.specs.declared.entry.Entry.{Entry}
 use Rattle.gup_frames.specs.Frames.{FramesValue, FrameLists, frames_of, IsFrame}
-use Rattle.gup_space.specs.Space.{SpaceValue, SpaceParts, space_of}
+use Rattle.gup_space.specs.Space.{SpaceValue, SpaceParts, space_of, lacking}
+use Rattle.gup_space.specs.Found.{found_for}
 use Rattle.gup_space.specs.Shows.{ShowsFrames, ShowsSpace}
 use Rattle.gup_spec_events.specs.State.{CoreState}
 use Rattle.gup_spec_turns.specs.JobPlace.{JobPlace, place_in, KeepsFrame, StandsFork, unbegun, from_page, at_page, wants_frame, at_word}
@@ -22,7 +24,8 @@ abbrev pub IsCopyOf : FramesValue → (page to : ℕ) → (parent : SpaceValue) 
 IsCopyOf frames page to parent =
     IsFrame frames to × (frames.count to ≡ 0 → ⊥) × ((e : Entry) → parent.entry page ≡ Some e → to ≡ e.frame → ⊥)
 
--- What a fork of actor a finds where it stands. From its first turn on the actor has the parent's structure lock.
+-- What a fork of actor a finds where it stands. From its first turn on the actor has the parent's structure lock. Where it has
+-- a frame to copy the page into, its child lacks none of the page's tables.
 abbrev pub IsReadyAt : FramesValue → (a : ℕ) → JobPlace → (parent child : SpaceValue) → Type 0
 IsReadyAt frames a unbegun parent child = Unit {0}
 IsReadyAt frames a (from_page page) parent child = parent.structure ≡ Some a
@@ -30,7 +33,15 @@ IsReadyAt frames a (at_page page) parent child = (parent.structure ≡ Some a) �
 IsReadyAt frames a (wants_frame page) parent child = (parent.structure ≡ Some a) × IsCountedIn page parent child
 IsReadyAt frames a (at_word page word to) parent child =
     (parent.structure ≡ Some a) × IsCountedIn page parent child × IsCopyOf frames page to parent × (word ≤ words)
+    × (lacking child page ≡ 0)
 IsReadyAt frames a place parent child = ⊥
+
+-- where a fork can't go on: its child lacks a page table for the page that is to be shared, or no frame is found for the page
+-- that is to be copied
+abbrev pub IsHeldUp : FramesValue → JobPlace → (child : SpaceValue) → Type 0
+IsHeldUp frames (at_page page) child = lacking child page ≡ 0 → ⊥
+IsHeldUp frames (wants_frame page) child = found_for frames child page Any ≡ None
+IsHeldUp frames place child = ⊥
 
 -- whether the fork is over, with a child that is born or has failed
 abbrev pub is_over : Forked → Bool

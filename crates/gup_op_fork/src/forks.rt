@@ -1,23 +1,24 @@
 //! Forks: their beginning, and then page by page.
-ghost use Rattle.std.specs.Prelude.{◌≡◌, ℕ, ◌+◌, ◌-◌, ◌<◌, ◌≤◌, ◌^◌, true, false, is_some, Some, None, IsSome};
+ghost use Rattle.std.specs.Prelude.{◌≡◌, ℕ, ◌+◌, ◌-◌, ◌<◌, ◌≤◌, ◌^◌, true, false, is_some, Some, None, IsSome, MatchOption};
 ghost use Rattle.gup_base.specs.declared.entry.Allowed.TheVariants.{Any};
 ghost use Rattle.gup_base.specs.declared.entry.Entry.{Entry as EntryValue};
 ghost use Rattle.gup_base.specs.declared.entry.Rights.{Rights as RightsValue};
 ghost use Rattle.gup_plain.specs.Event.{page_numbers, words};
 ghost use Rattle.gup_plain.specs.Put.{lowest};
-ghost use Rattle.gup_plain.specs.State.{Birth, growing, born, failed};
+ghost use Rattle.gup_plain.specs.State.{Birth, growing, born};
 ghost use Rattle.gup_plain.specs.declared.event.PlainEvent.TheVariants as events;
-ghost use Rattle.gup_frames.specs.Frames.{FrameLists, frames_of, free_frame, IsFrame};
-ghost use Rattle.gup_space.specs.Space.{SpaceParts, space_of, AreMapped};
+ghost use Rattle.gup_frames.specs.Frames.{FrameLists, frames_of, taken, IsFrame};
+ghost use Rattle.gup_space.specs.Space.{SpaceParts, space_of, lacking, AreMapped};
+ghost use Rattle.gup_space.specs.Found.{found_for};
 ghost use Rattle.gup_space.specs.Counted.{AreCounted};
 ghost use Rattle.gup_fork.specs.Forks.{copies_frame};
 ghost use Rattle.gup_spec_turns.specs.ForkTurns.{fork_turn};
-ghost use Rattle.gup_spec_turns.specs.JobPlace.{unbegun, from_page, at_page, wants_frame, at_word};
+ghost use Rattle.gup_spec_turns.specs.JobPlace.{JobPlace as PlaceValue, unbegun, from_page, at_page, wants_frame, at_word};
 ghost use Rattle.gup_op_base.specs.Tidy.{IsTidy};
 ghost use Rattle.gup_op_base.specs.Said.{Tells, TellsTurn, whats_of, happened_said};
 ghost use Rattle.gup_op_base.specs.Turns.{IsTurnOf};
 ghost use Rattle.gup_op_base.specs.Jobs.{place_of};
-ghost use Rattle.gup_op_fork.specs.Forked.{IsCountedIn, IsCopyOf, IsReadyAt, is_over, place_after, birth_after, ShowsForking, StandsAsFork, forking_view};
+ghost use Rattle.gup_op_fork.specs.Forked.{IsCountedIn, IsCopyOf, IsReadyAt, IsHeldUp, is_over, place_after, birth_after, ShowsForking, StandsAsFork, forking_view};
 
 use gup_base::{Allowed, FrameNo, PageNo, ProcNo, WordNo, maybe_pinned};
 use gup_fork::{begin, copy_word, end, fail, place_child, share};
@@ -49,7 +50,8 @@ pub enum Forked {
 ///
 /// Where no frame is free for a copy the fork fails in that turn, with the answer `NoFrame`: the child loses its
 /// mappings and its entries, and the parent's locks are free again (of Linux's `dup_mmap`, which fails with `ENOMEM`
-/// then).
+/// then). So it does where the child lacks a page table for a page that is shared or copied; no frame is taken then (of
+/// Linux's `copy_pte_range`, which fails with `ENOMEM` where it is given no page table).
 #[inline(never)]
 pub fn fork(
     parent: &mut Space,
@@ -78,9 +80,9 @@ pub fn fork(
         JobPlace::From(from) => {
             next_turn(parent, child, frames, journal, head, proc, child_no, from)
         }
-        JobPlace::At(page) => Forked::Goes(share_turn(
-            parent, child, frames, journal, head, proc, child_no, page,
-        )),
+        JobPlace::At(page) => {
+            share_turn(parent, child, frames, journal, head, proc, child_no, page)
+        }
         JobPlace::Wanting(page) => {
             frame_turn(parent, child, frames, journal, head, proc, child_no, page)
         }
@@ -225,7 +227,7 @@ fn last_turn(parent: &mut Space, journal: &mut Journal, head: &Head, proc: ProcN
     head.done(journal, event, Answer::Plain);
 }
 
-// The counted page is shared, and the table lock is free again.
+// The counted page is shared, and the table lock is free again; where the child lacks a table for it the fork fails.
 fn share_turn(
     parent: &mut Space,
     child: &mut Space,
@@ -235,27 +237,30 @@ fn share_turn(
     proc: ProcNo,
     child_no: ProcNo,
     page: PageNo,
-) -> JobPlace
+) -> Forked
     requires room { 3 ≤ journal.old.room }
     requires parent { IsTidy (frames_of frames.old) (space_of parent.old) }
     requires child { IsTidy (frames_of frames.old) (space_of child.old) }
+    requires sequence { (space_of parent.old).sequence < 2 ^ 40 }
     requires few { (f : ℕ) → (frames_of frames.old).count f < 2 ^ 40 }
     requires ready { IsCountedIn page (space_of parent.old) (space_of child.old) }
-    ensures { TellsTurn head.now journal.old journal.new false
+    ensures { TellsTurn head.now journal.old journal.new (is_over result)
         (λ said. (birth : Birth)
         → IsTurnOf (ShowsForking head.now.actor proc child_no) (StandsAsFork head.now.actor proc child_no)
         (forking_view frames.old parent.old child.old (at_page page) birth)
-        (forking_view frames.new parent.new child.new (place_of result) (growing proc))
+        (forking_view frames.new parent.new child.new (place_of (place_after result)) (birth_after proc result))
         (λ s. fork_turn s head.now.actor proc child_no (s.job head.now.actor)) (whats_of said)) }
 {
-    child.has_room(page);
+    if child.lacks(page) > 0 {
+        return fail_turn(parent, child, frames, journal, head, proc, child_no);
+    }
     share(parent, child, frames, page);
     parent.set_table(None);
     page_done(journal, head, proc, child_no, page);
-    JobPlace::From(page.get() + 1)
+    Forked::Goes(JobPlace::From(page.get() + 1))
 }
 
-// A page that is to be copied gets a frame; where none is free the fork fails.
+// A page that is to be copied gets a frame; where none is found for it the fork fails.
 #[inline(never)]
 fn frame_turn(
     parent: &mut Space,
@@ -277,12 +282,24 @@ fn frame_turn(
         (forking_view frames.new parent.new child.new (place_of (place_after result)) (birth_after proc result))
         (λ s. fork_turn s head.now.actor proc child_no (s.job head.now.actor)) (whats_of said)) }
 {
-    let Some(to) = frames.take(Allowed::Any) else {
-        fail_turn(parent, child, frames, journal, head, proc, child_no);
-        return Forked::Failed;
+    let Some(to) = take_for(child, frames, page) else {
+        return fail_turn(parent, child, frames, journal, head, proc, child_no);
     };
     head.silent(journal);
     Forked::Goes(JobPlace::Copying { page, word: 0, to })
+}
+
+// Takes the lowest free frame for this page of the child. None is taken where none is free, or where the child lacks a page
+// table for it.
+fn take_for(child: &Space, frames: &mut Frames, page: PageNo) -> Option<FrameNo>
+    ensures frame { result ≡ found_for (frames_of frames.old) (space_of child.now) page Any }
+    ensures taken { MatchOption result (frames_of frames.new ≡ frames_of frames.old) (λ f. frames_of frames.new ≡ taken f (frames_of frames.old)) }
+{
+    if child.lacks(page) == 0 {
+        frames.take(Allowed::Any)
+    } else {
+        None
+    }
 }
 
 // The failure, which frees both locks of the parent.
@@ -294,17 +311,17 @@ fn fail_turn(
     head: &Head,
     proc: ProcNo,
     child_no: ProcNo,
-)
+) -> Forked
     requires room { 3 ≤ journal.old.room }
     requires child { AreCounted (frames_of frames.old) (space_of child.old) }
     requires mapped { AreMapped (space_of child.old) }
     requires sequence { (space_of parent.old).sequence < 2 ^ 40 }
-    ensures { (page : ℕ) → free_frame (frames_of frames.old) Any ≡ None
-        → TellsTurn head.now journal.old journal.new true
+    ensures { (place : PlaceValue) → IsHeldUp (frames_of frames.old) place (space_of child.old)
+        → TellsTurn head.now journal.old journal.new (is_over result)
         (λ said. (birth : Birth)
         → IsTurnOf (ShowsForking head.now.actor proc child_no) (StandsAsFork head.now.actor proc child_no)
-        (forking_view frames.old parent.old child.old (wants_frame page) birth)
-        (forking_view frames.new parent.new child.new unbegun failed)
+        (forking_view frames.old parent.old child.old place birth)
+        (forking_view frames.new parent.new child.new (place_of (place_after result)) (birth_after proc result))
         (λ s. fork_turn s head.now.actor proc child_no (s.job head.now.actor)) (whats_of said)) }
 {
     fail(parent, child, frames);
@@ -312,6 +329,7 @@ fn fail_turn(
     parent.set_structure(None);
     let event = PlainEvent::ForkFail { child: child_no };
     head.done(journal, event, Answer::NoFrame);
+    Forked::Failed
 }
 
 // The next word of the page is copied, or, where all are, the child gets the copy.
@@ -334,6 +352,7 @@ fn copy_turn(
     requires ready { IsCountedIn page (space_of parent.old) (space_of child.old) }
     requires copy { IsCopyOf (frames_of frames.old) page to (space_of parent.old) }
     requires word { word ≤ words }
+    requires path { lacking (space_of child.old) page ≡ 0 }
     ensures { TellsTurn head.now journal.old journal.new false
         (λ said. (birth : Birth)
         → IsTurnOf (ShowsForking head.now.actor proc child_no) (StandsAsFork head.now.actor proc child_no)
@@ -401,6 +420,7 @@ fn place_turn(
     requires child { IsTidy (frames_of frames.old) (space_of child.old) }
     requires ready { IsCountedIn page (space_of parent.old) (space_of child.old) }
     requires copy { IsCopyOf (frames_of frames.old) page to (space_of parent.old) }
+    requires path { lacking (space_of child.old) page ≡ 0 }
     ensures { (p c word : ℕ) → words ≤ word
         → TellsTurn head.now journal.old journal.new false
         (λ said. (birth : Birth) → IsTurnOf (ShowsForking head.now.actor p c) (StandsAsFork head.now.actor p c)
@@ -408,7 +428,6 @@ fn place_turn(
         (forking_view frames.new parent.new child.new (place_of result) (growing p))
         (λ s. fork_turn s head.now.actor p c (s.job head.now.actor)) (whats_of said)) }
 {
-    child.has_room(page);
     place_child(parent, child, frames, page, to);
     parent.set_table(None);
     head.silent(journal);

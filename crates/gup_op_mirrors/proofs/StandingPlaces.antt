@@ -9,16 +9,17 @@ use Rattle.gup_script.specs.Valid.{IsOp}
 use Rattle.gup_script.specs.declared.op.Op.{Op}
 use Rattle.gup_script.specs.declared.op.Op.TheVariants.{Protect, Pin, Fork}
 use Rattle.gup_space.specs.Shows.{ShowsFrames, ShowsSpace}
-use Rattle.gup_space.specs.Space.{SpaceValue}
+use Rattle.gup_space.specs.Space.{SpaceValue, SpaceParts, space_of}
 use Rattle.gup_spec_events.specs.State.{CoreState, Job, idle, forking, counted, copying, moving, walking}
 use Rattle.gup_spec_turns.specs.JobPlace.{JobPlace, unbegun, job_place, place_in}
 use Rattle.gup_spec_turns.specs.PinPlace.{IsWithin, StandsPin, StandsAtPage}
 use Rattle.gup_op_base.specs.Far.{far_in}
 use Rattle.gup_op_base.specs.Tidy.{IsTidy}
 use Rattle.gup_op_base.proofs.Searching.{any_same, tables_agree}
+use Rattle.gup_op_waits.specs.Locks.{child_in}
 use Rattle.gup_op_waits.specs.Stands.{StandsAt}
 use Rattle.gup_law_mirrors.specs.Invalidated.{page_if, changes_page, pinned_in, shared_in, page_in}
-use Rattle.gup_op_mirrors.specs.Places.{at_beginning, shared_at}
+use Rattle.gup_op_mirrors.specs.Places.{at_beginning, shared_at, ShowsChild}
 
 -- each page with an entry is mapped
 pub maps_each : (F : FramesValue) (S : SpaceValue) (s : CoreState) (p : ℕ) → IsTidy F S → ShowsSpace p S s → (page : ℕ) (e : Entry) → s.entry p page ≡ Some e → IsSome (s.right p page)
@@ -62,15 +63,19 @@ pin_page s a p far gone got handle page n want fast place op same fits many is a
     ∙ pin_page_by s a p page taken n want fast (fast && far == 0) (s.job a) (s.prepared a) here.at
     ∙ ap (page_in s a p far) (sym same)
 
--- a fork shares the page that it has counted: the child lacks no table for it where entries need none
+-- a fork shares the page that it has counted, unless its child lacks a table for it
 
-shared_by : (F : FramesValue) (s : CoreState) (child : ℕ) (job : Job) (prepared : Option ℕ) → ShowsFrames F s → shared_at (job_place job prepared) ≡ shared_in s child job
-shared_by F s child (forking q c done (counted page)) prepared frames = ap (λ (may : Bool). page_if may page) (sym (tables_agree F child page s frames))
-shared_by F s child (forking q c done (copying page word)) None frames = refl
-shared_by F s child (forking q c done (copying page word)) (Some to) frames = refl
-shared_by F s child (forking q c done step) prepared frames = refl
-shared_by F s child job prepared frames = refl
+shared_by : (F : FramesValue) (space : SpaceParts) (s : CoreState) (child : ℕ) (job : Job) (prepared : Option ℕ) → ShowsFrames F s → ShowsSpace child (space_of space) s → shared_at (Some space) (job_place job prepared) ≡ shared_in s child job
+shared_by F space s child (forking q c done (counted page)) prepared frames shown = ap (λ (may : Bool). page_if may page) (sym (tables_agree F (space_of space) child page s frames shown))
+shared_by F space s child (forking q c done (copying page word)) None frames shown = refl
+shared_by F space s child (forking q c done (copying page word)) (Some to) frames shown = refl
+shared_by F space s child (forking q c done step) prepared frames shown = refl
+shared_by F space s child job prepared frames shown = refl
 
-pub shared_page : (F : FramesValue) (s : CoreState) (a p far child : ℕ) (place : JobPlace) (op : Op) → op ≡ Fork child → ShowsFrames F s → place ≡ place_in s a → shared_at place ≡ page_in s a p far op
-shared_page F s a p far child place op same frames is =
-    ap shared_at is ∙ shared_by F s child (s.job a) (s.prepared a) frames ∙ ap (page_in s a p far) (sym same)
+pub shared_page : (F : FramesValue) (space : Option SpaceParts) (s : CoreState) (a p far child : ℕ) (place : JobPlace) (op : Op) → op ≡ Fork child → ShowsFrames F s → ShowsChild (child_in op) space s → place ≡ place_in s a → shared_at space place ≡ page_in s a p far op
+shared_page F space s a p far child place op same frames kid is = go space (subst (λ (x : Op). ShowsChild (child_in x) space s) same kid)
+  where
+    go : (o : Option SpaceParts) → ShowsChild (Some child) o s → shared_at o place ≡ page_in s a p far op
+    go None none = absurd none
+    go (Some parts) shown =
+        ap (shared_at (Some parts)) is ∙ shared_by F parts s child (s.job a) (s.prepared a) frames shown ∙ ap (page_in s a p far) (sym same)

@@ -1,7 +1,7 @@
 //! Pages that a store or a pin makes ready: whether that changes the entry that a page has.
 ghost use Rattle.std.specs.Prelude.{◌≡◌, ℕ, nat_lt, is_some, is_none};
 ghost use Rattle.gup_frames.specs.Frames.{frames_of, free_frame, IsFrame};
-ghost use Rattle.gup_space.specs.Space.{space_of};
+ghost use Rattle.gup_space.specs.Space.{SpaceValue, space_of, lacking};
 ghost use Rattle.gup_space.specs.Shows.{ShowsFrames, ShowsSpace};
 ghost use Rattle.gup_spec_events.specs.State.{CoreState};
 ghost use Rattle.gup_spec_turns.specs.CoreTurn.{zones_of};
@@ -24,6 +24,7 @@ pub fn changes_page(space: &Space, frames: &Frames, page: PageNo, want: Want) ->
 {
     match space.entry(page) {
         Some(entry) => {
+            space.has_path(page);
             may_pin(want.write, space.rights_at(page)) && changes_entry(frames, want, entry)
         }
         None => false,
@@ -41,10 +42,12 @@ fn may_pin(write: bool, rights: Option<Rights>) -> bool
     }
 }
 
-// Whether the entry of a page that is made ready is broken, for which a frame must be free, or else cleared.
+// Whether the entry of a page that is made ready is broken, for which a frame must be free, or else cleared. The page lacks no page
+// table, since it has an entry.
 fn changes_entry(frames: &Frames, want: Want, entry: Entry) -> bool
     requires { IsFrame (frames_of frames.now) entry.frame }
-    ensures { (s : CoreState) (p page : ℕ) → ShowsFrames (frames_of frames.now) s → result ≡ entry_changes s p page want entry }
+    ensures { (space : SpaceValue) (s : CoreState) (p page : ℕ) → ShowsFrames (frames_of frames.now) s → ShowsSpace p space s
+        → lacking space page ≡ 0 → result ≡ entry_changes s p page want entry }
 {
     let frame = entry.frame;
     if copies(frames, want.write, entry) {

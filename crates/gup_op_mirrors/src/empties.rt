@@ -1,9 +1,11 @@
 //! The slots that a turn empties before anything else.
+ghost use Rattle.std.specs.Option.{option_copied};
 ghost use Rattle.std.specs.Prelude.{◌≡◌, ℕ, ◌<◌, length, slice_get, Some, IsSome, IfSome};
 ghost use Rattle.arrayvec.specs.ArrayVec.{ArrayVec};
 ghost use Rattle.gup_frames.specs.Frames.{frames_of};
 ghost use Rattle.gup_notify.specs.Mirrors.{mirrors_of};
 ghost use Rattle.gup_script.specs.Valid.{IsOp};
+ghost use Rattle.gup_script.specs.declared.op.Op.TheVariants.{Fork};
 ghost use Rattle.gup_spec_events.specs.State.{CoreState};
 ghost use Rattle.gup_spec_turns.specs.Emptying.{has_page, invalidate};
 ghost use Rattle.gup_spec_turns.specs.JobPlace.{place_in};
@@ -12,23 +14,26 @@ ghost use Rattle.gup_op_base.specs.Far.{HasFar, far_in};
 ghost use Rattle.gup_op_base.specs.Jobs.{place_of};
 ghost use Rattle.gup_op_base.specs.Tidy.{IsTidy};
 ghost use Rattle.gup_op_waits.specs.Doers.{HasProcess};
-ghost use Rattle.gup_op_waits.specs.Parts.{EachSpace, ShowsParts};
+ghost use Rattle.gup_op_waits.specs.Locks.{child_in};
+ghost use Rattle.gup_op_waits.specs.Parts.{EachSpace, ShowsSpaces, ShowsParts};
 ghost use Rattle.gup_op_waits.specs.Stands.{StandsAt};
 ghost use Rattle.gup_op_mirrors.specs.Emptied.{LeavesSlotsOf};
+ghost use Rattle.gup_op_mirrors.specs.Places.{ShowsChild};
 ghost use Rattle.gup_op_mirrors.specs.Ranges.{range_of};
 
 use crate::ranges::{Pages, invalidated};
 use gup_base::{ActorNo, ProcNo};
 use gup_notify::Mirrors;
 use gup_op_base::JobPlace;
-use gup_op_waits::Parts;
+use gup_op_waits::{Parts, child_of};
 use gup_script::Op;
 use gup_space::Space;
 
 /// Empties the slots that the actor's next turn of this operation is to empty, before the turn is taken: those that are filled with
 /// a page whose entry it shares, breaks, clears, lowers, drops or discards, or whose rights it sets. The operation is of this
-/// process, which is born, or of none; its actor stands there, and `far` of its turns are over. Where no slot is filled it costs no
-/// more than to see that.
+/// process, which is born, or of none; its actor stands there, and `far` of its turns are over. A fork whose child lacks a page
+/// table for the page that it is to share shares none, and empties no slot. Where no slot is filled it costs no more than to see
+/// that.
 #[inline]
 pub fn empty_slots(
     parts: &Parts,
@@ -41,6 +46,7 @@ pub fn empty_slots(
 )
     requires process { HasProcess op.now → IsSome proc }
     requires space { IfSome proc (λ p. p < length parts.now.spaces.items) }
+    requires child { (child : ℕ) → op.now ≡ Fork child → child < length parts.now.spaces.items }
     requires actor { actor < length parts.now.taken.items }
     requires tidy { EachSpace (IsTidy (frames_of parts.now.frames)) parts.now.spaces.items }
     requires op { IsOp op.now }
@@ -65,6 +71,7 @@ fn empty_filled(
 )
     requires process { HasProcess op.now → IsSome proc }
     requires space { IfSome proc (λ p. p < length parts.now.spaces.items) }
+    requires child { (child : ℕ) → op.now ≡ Fork child → child < length parts.now.spaces.items }
     requires actor { actor < length parts.now.taken.items }
     requires tidy { EachSpace (IsTidy (frames_of parts.now.frames)) parts.now.spaces.items }
     requires op { IsOp op.now }
@@ -89,6 +96,7 @@ fn pages_to_empty(
     op: &Op,
 ) -> Option<Pages>
     requires space { proc < length parts.now.spaces.items }
+    requires child { (child : ℕ) → op.now ≡ Fork child → child < length parts.now.spaces.items }
     requires actor { actor < length parts.now.taken.items }
     requires tidy { EachSpace (IsTidy (frames_of parts.now.frames)) parts.now.spaces.items }
     requires op { IsOp op.now }
@@ -99,7 +107,8 @@ fn pages_to_empty(
 {
     let space = space_at(parts, proc);
     let got = pages_taken(parts, actor);
-    invalidated(space, &parts.frames, proc, far, got, job, op)
+    let child = child_at(parts, op);
+    invalidated(space, child, &parts.frames, proc, far, got, job, op)
 }
 
 fn space_at(parts: &Parts, proc: ProcNo) -> &Space
@@ -107,6 +116,17 @@ fn space_at(parts: &Parts, proc: ProcNo) -> &Space
     ensures { slice_get parts.now.spaces.items proc ≡ Some result.now }
 {
     &parts.spaces[proc.get() as usize]
+}
+
+// The child that the operation brings, if it is a fork.
+fn child_at<'a>(parts: &'a Parts, op: &Op) -> Option<&'a Space>
+    requires { (child : ℕ) → op.now ≡ Fork child → child < length parts.now.spaces.items }
+    ensures { (s : CoreState) → ShowsSpaces parts.now.spaces.items s → ShowsChild (child_in op.now) (option_copied result) s }
+{
+    match child_of(op) {
+        Some(child) => Some(space_at(parts, child)),
+        None => None,
+    }
 }
 
 // How many pages the actor's running pin has taken.

@@ -1,5 +1,6 @@
 //! The pages whose mirror slots a turn empties.
 ghost use Rattle.std.specs.Prelude.{◌≡◌, ℕ, ◌+◌, ◌<◌, ◌≤◌, ◌^◌, ◌&&◌, not, length, Some, IsSome};
+ghost use Rattle.std.specs.Option.{option_copied};
 ghost use Rattle.gup_frames.specs.Frames.{frames_of};
 ghost use Rattle.gup_space.specs.Space.{space_of};
 ghost use Rattle.gup_space.specs.Shows.{ShowsFrames, ShowsSpace};
@@ -13,9 +14,10 @@ ghost use Rattle.gup_spec_turns.specs.Turn.{op_turn};
 ghost use Rattle.gup_op_base.specs.Far.{HasFar, far_in};
 ghost use Rattle.gup_op_base.specs.Jobs.{place_of};
 ghost use Rattle.gup_op_base.specs.Tidy.{IsTidy, AreNumbered};
+ghost use Rattle.gup_op_waits.specs.Locks.{child_in};
 ghost use Rattle.gup_op_waits.specs.Stands.{StandsAt};
 ghost use Rattle.gup_law_mirrors.specs.Invalidated.{page_if as if_page, for_store, changes_page as page_changes, page_in, pages_in};
-ghost use Rattle.gup_op_mirrors.specs.Places.{at_beginning, shared_at};
+ghost use Rattle.gup_op_mirrors.specs.Places.{at_beginning, lacks_none, shared_at, ShowsChild};
 ghost use Rattle.gup_op_mirrors.specs.Ranges.{range_of};
 
 use crate::changes::changes_page;
@@ -36,14 +38,16 @@ pub struct Pages {
 
 /// Of which pages of process `proc` the next turn of this operation is to empty the mirror slots, before it is taken, if of any:
 /// those whose entry it shares, breaks, clears, lowers, drops or discards, or whose rights it sets. Of the operation `far` turns
-/// are over, its actor stands there, and as a pin it has taken `got` pages. Slots are filled with pages that have an entry
-/// alone: of others the answer says nothing.
+/// are over, its actor stands there, and as a pin it has taken `got` pages. A fork has its `child` there: where that lacks a page
+/// table for the page that is to be shared, the fork fails in place of it, and no slot is emptied. Slots are filled with pages
+/// that have an entry alone: of others the answer says nothing.
 ///
 /// Linux calls `mmu_notifier_invalidate_range_start` there: in `copy_page_range`, `wp_page_copy`, `unmap_vmas` and
 /// `zap_page_range_single` (`mm/memory.c`), in `try_to_migrate_one` (`mm/rmap.c`), and in `change_pud_range` (`mm/mprotect.c`).
 /// That a turn of one page empties the slots of that page alone is this project's own: Linux invalidates the whole range first.
 pub fn invalidated(
     space: &Space,
+    child: Option<&Space>,
     frames: &Frames,
     proc: ProcNo,
     far: u16,
@@ -55,12 +59,13 @@ pub fn invalidated(
     requires op { IsOp op.now }
     requires far { HasFar op.now far }
     ensures { (s : CoreState) (a slots k : ℕ) → ShowsFrames (frames_of frames.now) s → ShowsSpace proc (space_of space.now) s
+        → ShowsChild (child_in op.now) (option_copied child.entry) s
         → place_of place.now ≡ place_in s a → got ≡ length (s.taken a) → far ≡ far_in (Some op.now) k
         → StandsAt s a proc k op.now → (q g : ℕ) → IsSome (s.entry q g)
         → invalidate (op_turn s a proc slots k op.now).events q g ≡ has_page (range_of result) q g }
 {
     turns_invalidate_pages();
-    let page = first_page(space, frames, far, got, place, op)?;
+    let page = first_page(space, child, frames, far, got, place, op)?;
     let n = page_count(op);
     Some(Pages { proc, page, n })
 }
@@ -78,6 +83,7 @@ fn page_count(op: &Op) -> u16
 // The first one of the pages.
 fn first_page(
     space: &Space,
+    child: Option<&Space>,
     frames: &Frames,
     far: u16,
     got: u8,
@@ -88,6 +94,7 @@ fn first_page(
     requires op { IsOp op.now }
     requires far { HasFar op.now far }
     ensures { (s : CoreState) (a p k : ℕ) → ShowsFrames (frames_of frames.now) s → ShowsSpace p (space_of space.now) s
+        → ShowsChild (child_in op.now) (option_copied child.entry) s
         → place_of place.now ≡ place_in s a → got ≡ length (s.taken a) → far ≡ far_in (Some op.now) k
         → StandsAt s a p k op.now → result ≡ page_in s a p k op.now }
 {
@@ -102,7 +109,7 @@ fn first_page(
             ..
         } => pinned(space, frames, *page, got, *want, *fast && far == 0, place),
         Op::Move { page, .. } => moved(*page, place),
-        Op::Fork { .. } => shared(place),
+        Op::Fork { .. } => shared(child, place),
         Op::Exit => lowest_page(space),
         Op::Map { .. } | Op::Load { .. } | Op::Get { .. } | Op::Put { .. } => None,
         Op::Unpin { .. } | Op::Give { .. } | Op::Take { .. } => None,
@@ -173,13 +180,23 @@ fn moved(page: PageNo, place: &JobPlace) -> Option<PageNo>
     page_if(matches!(place, JobPlace::Unbegun), page)
 }
 
-// The page that a fork is about to share.
-fn shared(place: &JobPlace) -> Option<PageNo>
-    ensures { result ≡ shared_at (place_of place.now) }
+// The page that a fork is about to share: the one that it has counted, unless its child lacks a page table for it.
+fn shared(child: Option<&Space>, place: &JobPlace) -> Option<PageNo>
+    ensures { result ≡ shared_at (option_copied child.entry) (place_of place.now) }
 {
     match place {
-        JobPlace::At(page) => Some(*page),
+        JobPlace::At(page) => page_if(has_tables(child, *page), *page),
         _ => None,
+    }
+}
+
+// Whether the page lacks no page table in this process, if there is one.
+fn has_tables(space: Option<&Space>, page: PageNo) -> bool
+    ensures { result ≡ lacks_none (option_copied space.entry) page }
+{
+    match space {
+        Some(space) => space.lacks(page) == 0,
+        None => false,
     }
 }
 

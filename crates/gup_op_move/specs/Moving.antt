@@ -2,18 +2,18 @@
 use Rattle.std.specs.Prelude.{◌≡◌, ℕ, Bool, true, false, None, IsSome}
 use Rattle.gup_base.specs.declared.entry.Zone.{Zone}
 use Rattle.gup_frames.specs.Frames.{FramesValue, FrameLists, frames_of, IsFrame}
-use Rattle.gup_space.specs.Space.{SpaceValue, SpaceParts, space_of}
+use Rattle.gup_space.specs.Space.{SpaceValue, SpaceParts, space_of, lacking}
 use Rattle.gup_space.specs.Shows.{ShowsFrames, ShowsSpace}
 use Rattle.gup_spec_events.specs.State.{CoreState}
 use Rattle.gup_spec_turns.specs.JobPlace.{JobPlace, place_in, KeepsFrame, StandsMove, unbegun, moving_page}
 
--- What a move of this page finds where it stands: the page whose entry it has cleared is mapped and has none, and the frame of
--- that entry is there, and not free.
+-- What a move of this page finds where it stands: the page whose entry it has cleared is mapped and has none, and lacks none of
+-- its page tables, and the frame of that entry is there, and not free.
 abbrev pub IsReadyToMove : FramesValue → (page : ℕ) → JobPlace → SpaceValue → Type 0
 IsReadyToMove frames page unbegun space = Unit {0}
 IsReadyToMove frames page (moving_page g e count) space =
     (g ≡ page) × IsSome (space.right page) × (space.entry page ≡ None) × IsFrame frames e.frame
-    × (frames.count e.frame ≡ 0 → ⊥)
+    × (frames.count e.frame ≡ 0 → ⊥) × (lacking space page ≡ 0)
 IsReadyToMove frames page place space = ⊥
 
 -- a move that stands at its beginning after a turn is over

@@ -4,12 +4,11 @@ ghost use Rattle.std.specs.Prelude.{◌≡◌, ℕ, ◌≤◌, true, Some, None,
 ghost use Rattle.gup_base.specs.declared.entry.Zone.{Zone as ZoneValue};
 ghost use Rattle.gup_plain.specs.declared.answer.Answer.TheVariants.{Plain, NoFrame};
 ghost use Rattle.gup_frames.specs.Frames.{FrameLists, frames_of, IsFrame};
-ghost use Rattle.gup_space.specs.Space.{SpaceParts, space_of, AreMapped};
+ghost use Rattle.gup_space.specs.Space.{SpaceParts, space_of, lacking};
 ghost use Rattle.gup_spec_events.specs.State.{unread, one, more};
 ghost use Rattle.gup_spec_turns.specs.MoveTurns.{move_turn};
 ghost use Rattle.gup_spec_turns.specs.JobPlace.{unbegun, moving_page};
 ghost use Rattle.gup_op_base.specs.Jobs.{place_of};
-ghost use Rattle.gup_op_base.specs.Tidy.{IsTidy};
 ghost use Rattle.gup_op_base.specs.Said.{TellsTurn, whats_of};
 ghost use Rattle.gup_op_base.specs.Turns.{IsTurnOf};
 ghost use Rattle.gup_op_move.specs.Moving.{IsReadyToMove, is_over, ShowsMoving, StandsAsMove, moving_view};
@@ -40,7 +39,6 @@ pub fn take_move(
     place: JobPlace,
 ) -> JobPlace
     requires room { 3 ≤ journal.old.room }
-    requires tidy { IsTidy (frames_of frames.old) (space_of space.old) }
     requires ready { IsReadyToMove (frames_of frames.old) page (place_of place) (space_of space.old) }
     ensures { TellsTurn head.now journal.old journal.new (is_over (place_of result))
         (λ said. (p : ℕ) → IsTurnOf (ShowsMoving head.now.actor p) (StandsAsMove head.now.actor p page zone)
@@ -128,9 +126,9 @@ fn place_turn(
     entry: Entry,
 )
     requires room { 3 ≤ journal.old.room }
-    requires tidy { IsTidy (frames_of frames.old) (space_of space.old) }
     requires mapped { IsSome ((space_of space.old).right page) }
     requires absent { (space_of space.old).entry page ≡ None }
+    requires path { lacking (space_of space.old) page ≡ 0 }
     requires there { IsFrame (frames_of frames.old) entry.frame }
     requires held { (frames_of frames.old).count entry.frame ≡ 0 → ⊥ }
     ensures { TellsTurn head.now journal.old journal.new true
@@ -138,7 +136,6 @@ fn place_turn(
         (moving_view frames.old space.old (moving_page page entry one)) (moving_view frames.new space.new unbegun)
         (λ s. move_turn s head.now.actor p page zone (s.job head.now.actor)) (whats_of said)) }
 {
-    space.has_room(page);
     let placed = place(space, frames, page, entry, Allowed::Only(zone)).is_ok();
     space.set_table(None);
     head.answered(journal, answer_of(placed));
@@ -165,16 +162,15 @@ fn busy_turn(
     count: u64,
 )
     requires room { 3 ≤ journal.old.room }
-    requires pages { AreMapped (space_of space.old) }
     requires mapped { IsSome ((space_of space.old).right page) }
     requires absent { (space_of space.old).entry page ≡ None }
+    requires path { lacking (space_of space.old) page ≡ 0 }
     ensures { TellsTurn head.now journal.old journal.new true
         (λ said. (p : ℕ) (zone : ZoneValue) (frames : FrameLists)
         → IsTurnOf (ShowsMoving head.now.actor p) (StandsAsMove head.now.actor p page zone)
         (moving_view frames space.old (moving_page page entry (more count))) (moving_view frames space.new unbegun)
         (λ s. move_turn s head.now.actor p page zone (s.job head.now.actor)) (whats_of said)) }
 {
-    space.has_room(page);
     restore(space, page, entry);
     space.set_table(None);
     head.answered(journal, Answer::Busy(count));

@@ -1,5 +1,5 @@
 -- What a load or a store makes of frames and a process is the turn's.
-use Rattle.std.proofs.Common.{◌≡◌, ℕ, ◌==◌, Bool, true, false, is_some, List, [], ◌∷◌, ◌++◌, Option, Some, None, IsSome, Ok, Err, cond, refl, sym, ap, ◌∙◌, subst, eqb-true, arith}
+use Rattle.std.proofs.Common.{◌≡◌, ℕ, ◌==◌, Bool, true, false, if◌then◌else◌, is_some, List, [], ◌∷◌, ◌++◌, Option, Some, None, IsSome, Ok, Err, cond, refl, sym, ap, ◌∙◌, subst, eqb-true, arith}
 use Rattle.std.proofs.lemmas.Bool.Decides.{nat_tests}
 use Rattle.gup_base.specs.declared.entry.Allowed.{Allowed}
 use Rattle.gup_base.specs.declared.entry.Allowed.TheVariants.{Any}
@@ -10,7 +10,8 @@ use Rattle.gup_plain.specs.Note.{JournalValue}
 use Rattle.gup_plain.specs.declared.answer.Answer.{Answer}
 use Rattle.gup_plain.specs.declared.note.What.TheVariants.{Done}
 use Rattle.gup_frames.specs.Frames.{FramesValue, IsFrame, free_frame, with_word}
-use Rattle.gup_space.specs.Space.{SpaceValue}
+use Rattle.gup_space.specs.Found.{found_for}
+use Rattle.gup_space.specs.Space.{SpaceValue, lacking}
 use Rattle.gup_space.proofs.After.{storing}
 use Rattle.gup_space.specs.Counted.{IsCounted}
 use Rattle.gup_space.specs.Shows.{Change, ShowsFrames, ShowsSpace}
@@ -42,12 +43,12 @@ answers_so head was now {answer} {other} same h = subst (λ (x : Answer). Tells 
 
 -- a state's fault is the one that was read of frames and a process
 pub read_fault_same : (F : FramesValue) (S : SpaceValue) (a p page : ℕ) (s : CoreState) → S.entry page ≡ None → ShowsFrames F s → ShowsSpace p S s
-    → load_fault s a p page (s.entry p page) ≡ read_fault a p page (S.right page) (S.entry page) (free_frame F Any)
+    → load_fault s a p page (s.entry p page) ≡ read_fault a p page (S.right page) (S.entry page) (found_for F S page Any)
 read_fault_same F S a p page s none frames space =
     ap (λ o. load_fault s a p page o) (space.entry page ∙ none)
     ∙ ap (λ r. read_fault a p page r None (frame_for s p page Any)) (space.right page)
-    ∙ ap (λ o. read_fault a p page (S.right page) None o) (frame_agrees F p page Any s frames)
-    ∙ ap (λ o. read_fault a p page (S.right page) o (free_frame F Any)) (sym none)
+    ∙ ap (λ o. read_fault a p page (S.right page) None o) (frame_agrees F S p page Any s frames space)
+    ∙ ap (λ o. read_fault a p page (S.right page) o (found_for F S page Any)) (sym none)
 
 -- what a write fault reads of the frame of its entry
 pub write_fault_reads : (F : FramesValue) (a p page : ℕ) (rights : Option Rights) (entry : Option Entry) (free : Option ℕ) (s : CoreState) → ShowsFrames F s
@@ -58,13 +59,13 @@ write_fault_reads F a p page (Some RW) (Some e) free s frames =
 write_fault_reads F a p page rights entry free s frames = refl
 
 write_fault_same : (F : FramesValue) (S : SpaceValue) (a p page : ℕ) (s : CoreState) → allows_store (S.entry page) ≡ false → ShowsFrames F s → ShowsSpace p S s
-    → store_fault s a p page (s.entry p page) ≡ write_fault a p page (S.right page) (S.entry page) F.mark F.count (free_frame F Any)
+    → store_fault s a p page (s.entry p page) ≡ write_fault a p page (S.right page) (S.entry page) F.mark F.count (found_for F S page Any)
 write_fault_same F S a p page s unallowed frames space =
     ap (λ o. store_fault s a p page o) (space.entry page)
     ∙ ap (λ b. store_fault_by b s a p page (S.entry page)) unallowed
     ∙ ap (λ r. write_fault a p page r (S.entry page) s.mark s.count (frame_for s p page Any)) (space.right page)
-    ∙ ap (λ o. write_fault a p page (S.right page) (S.entry page) s.mark s.count o) (frame_agrees F p page Any s frames)
-    ∙ write_fault_reads F a p page (S.right page) (S.entry page) (free_frame F Any) s frames
+    ∙ ap (λ o. write_fault a p page (S.right page) (S.entry page) s.mark s.count o) (frame_agrees F S p page Any s frames space)
+    ∙ write_fault_reads F a p page (S.right page) (S.entry page) (found_for F S page Any) s frames
 
 -- ---- loads
 
@@ -116,7 +117,7 @@ load_denied new a p page word (Err denied) answer s refused shown =
 -- by the fault of a page without an entry
 abbrev pub LoadFault : Change → (page : ℕ) → Option Answer → Type 0
 LoadFault c page denied =
-    IsFault c denied (λ a p. read_fault a p page (c.old_space.right page) (c.old_space.entry page) (free_frame c.old_frames Any))
+    IsFault c denied (λ a p. read_fault a p page (c.old_space.right page) (c.old_space.entry page) (found_for c.old_frames c.old_space page Any))
 
 pub load_by_fault : (c : Change) (a p page word : ℕ) → c.old_space.entry page ≡ None → c.old_space.table ≡ None → LoadFault c page None → IsSome (c.new_space.entry page)
     → IsTurnOf (ShowsAlone p) Anywhere (before c) (behind c) (λ s. load_turn s a p page word (s.entry p page)) (whats_of (loaded_said a p page word (page_word c.new_frames (c.new_space.entry page) word)))
@@ -124,7 +125,7 @@ load_by_fault c a p page word none unlocked fault some s shown stands =
     leads_alike
     (ap (λ (x : Fault). loads_after s x a p page word) (read_fault_same c.old_frames c.old_space a p page s none shown.frames shown.space))
     (load_after (behind c) a p page word
-    (read_fault a p page (c.old_space.right page) (c.old_space.entry page) (free_frame c.old_frames Any)) s (fault.refused a p) some (events_show fault.events s a p unlocked shown))
+    (read_fault a p page (c.old_space.right page) (c.old_space.entry page) (found_for c.old_frames c.old_space page Any)) s (fault.refused a p) some (events_show fault.events s a p unlocked shown))
 
 pub load_refused : (c : Change) (a p page word : ℕ) (answer : Answer) → c.old_space.entry page ≡ None → c.old_space.table ≡ None → LoadFault c page (Some answer)
     → IsTurnOf (ShowsAlone p) Anywhere (before c) (behind c) (λ s. load_turn s a p page word (s.entry p page)) (Done answer ∷ [])
@@ -132,7 +133,7 @@ load_refused c a p page word answer none unlocked fault s shown stands =
     leads_alike
     (ap (λ (x : Fault). loads_after s x a p page word) (read_fault_same c.old_frames c.old_space a p page s none shown.frames shown.space))
     (load_denied (behind c) a p page word
-    (read_fault a p page (c.old_space.right page) (c.old_space.entry page) (free_frame c.old_frames Any)) answer s (fault.refused a p) (events_show fault.events s a p unlocked shown))
+    (read_fault a p page (c.old_space.right page) (c.old_space.entry page) (found_for c.old_frames c.old_space page Any)) answer s (fault.refused a p) (events_show fault.events s a p unlocked shown))
 
 -- ---- stores
 
@@ -178,7 +179,7 @@ store_denied new a p page word value (Err denied) answer s refused shown =
 abbrev pub StoreFault : Change → (page : ℕ) → Option Answer → Type 0
 StoreFault c page denied =
     IsFault c denied
-    (λ a p. write_fault a p page (c.old_space.right page) (c.old_space.entry page) c.old_frames.mark c.old_frames.count (free_frame c.old_frames Any))
+    (λ a p. write_fault a p page (c.old_space.right page) (c.old_space.entry page) c.old_frames.mark c.old_frames.count (found_for c.old_frames c.old_space page Any))
 
 pub store_by_fault : (F F1 F' : FramesValue) (S S' : SpaceValue) (a p page word value : ℕ) → allows_store (S.entry page) ≡ false → S.table ≡ None → StoreFault (ch F F1 S S') page None
     → F' ≡ with_word (frame_in (S'.entry page)) word value F1
@@ -187,7 +188,7 @@ store_by_fault F F1 F' S S' a p page word value unallowed unlocked fault written
     leads_alike
     (ap (λ (x : Fault). stores_after s x a p page word value) (write_fault_same F S a p page s unallowed shown.frames shown.space))
     (store_after F1 F' S' a p page word value
-    (write_fault a p page (S.right page) (S.entry page) F.mark F.count (free_frame F Any)) s (fault.refused a p) written (events_show fault.events s a p unlocked shown))
+    (write_fault a p page (S.right page) (S.entry page) F.mark F.count (found_for F S page Any)) s (fault.refused a p) written (events_show fault.events s a p unlocked shown))
 
 pub store_refused : (c : Change) (a p page word value : ℕ) (answer : Answer) → allows_store (c.old_space.entry page) ≡ false → c.old_space.table ≡ None → StoreFault c page (Some answer)
     → IsTurnOf (ShowsAlone p) Anywhere (before c) (behind c) (λ s. store_turn s a p page word value (s.entry p page)) (Done answer ∷ [])
@@ -195,7 +196,7 @@ store_refused c a p page word value answer unallowed unlocked fault s shown stan
     leads_alike
     (ap (λ (x : Fault). stores_after s x a p page word value) (write_fault_same c.old_frames c.old_space a p page s unallowed shown.frames shown.space))
     (store_denied (behind c) a p page word value
-    (write_fault a p page (c.old_space.right page) (c.old_space.entry page) c.old_frames.mark c.old_frames.count (free_frame c.old_frames Any)) answer s (fault.refused a p) (events_show fault.events s a p unlocked shown))
+    (write_fault a p page (c.old_space.right page) (c.old_space.entry page) c.old_frames.mark c.old_frames.count (found_for c.old_frames c.old_space page Any)) answer s (fault.refused a p) (events_show fault.events s a p unlocked shown))
 
 -- ---- the frame that a fault leaves
 
@@ -262,12 +263,20 @@ pub read_there : (c : Change) (page : ℕ) → c.old_space.entry page ≡ None �
 read_there c page none unlocked fault there some =
     let s : CoreState = state_of c.old_frames c.old_space in
     let rights : Option Rights = c.old_space.right page in
-    let free : Option ℕ = free_frame c.old_frames Any in
+    let free : Option ℕ = found_for c.old_frames c.old_space page Any in
     let behind = events_lead fault.events s 0 0 (has_frames c.old_frames c.old_space) (has_space c.old_frames c.old_space 0) unlocked in
     let P : Option Entry → Type 0 = λ o. refusal_of (read_fault 0 0 page rights o free) ≡ None → IsMarkedAt (run s (events_of (read_fault 0 0 page rights o free))) 0 page in
     let marked : P (c.old_space.entry page) = subst P (sym none) (read_marks 0 0 page rights free s) in
     entry_there c.new_frames c.new_space 0 page (run s (events_of (read_fault 0 0 page rights (c.old_space.entry page) free)))
     behind.0 behind.1 (marked (fault.refused 0 0)) there some
+
+-- what is found for a page is the free frame
+found_is_free : (F : FramesValue) (S : SpaceValue) (page : ℕ) (allowed : Allowed) (f : ℕ) → found_for F S page allowed ≡ Some f → free_frame F allowed ≡ Some f
+found_is_free F S page allowed f is = go (lacking S page == 0) is
+  where
+    go : (none : Bool) → (if none then free_frame F allowed else None) ≡ Some f → free_frame F allowed ≡ Some f
+    go true found = found
+    go false found = absurd (cc)
 
 -- the free frame is no entry's
 pub free_apart : (F : FramesValue) (S : SpaceValue) (allowed : Allowed) (page f : ℕ) (d : Entry) → IsTidy F S → free_frame F allowed ≡ Some f → S.entry page ≡ Some d → f ≡ d.frame → ⊥
@@ -280,13 +289,13 @@ pub write_there : (c : Change) (page : ℕ) → IsTidy c.old_frames c.old_space 
     → HasEntry (c.new_space.entry page) (λ e. IsFrame c.new_frames e.frame)
 write_there c page tidy unallowed unlocked fault there some =
     let s : CoreState = state_of c.old_frames c.old_space in
-    let free : Option ℕ = free_frame c.old_frames Any in
+    let free : Option ℕ = found_for c.old_frames c.old_space page Any in
     let behind = events_lead fault.events s 0 0 (has_frames c.old_frames c.old_space) (has_space c.old_frames c.old_space 0) unlocked in
     entry_there c.new_frames c.new_space 0 page
     (run s (events_of (write_fault 0 0 page (c.old_space.right page) (c.old_space.entry page) c.old_frames.mark c.old_frames.count free)))
     behind.0 behind.1
     (write_marks 0 0 page (c.old_space.right page) (c.old_space.entry page) c.old_frames.mark c.old_frames.count free s (λ f. refl) (fault.refused 0 0) unallowed
-    (λ f d free_is found. free_apart c.old_frames c.old_space Any page f d tidy free_is found)) there some
+    (λ f d free_is found. free_apart c.old_frames c.old_space Any page f d tidy (found_is_free c.old_frames c.old_space page Any f free_is) found)) there some
 
 -- ---- entries
 

@@ -113,6 +113,8 @@ lowered_none page space =
       structure = refl;
       table = refl;
       walks = refl;
+      place = refl;
+      retired = refl;
     }
 
 lowered_at : (page n g : ℕ) (entry other : ℕ → Option Entry) → entry g ≡ other g → lowered page n entry g ≡ lowered page n other g
@@ -129,6 +131,8 @@ lowered_more page n old mid new first last =
       structure = last.structure ∙ first.structure;
       table = last.table ∙ first.table;
       walks = last.walks ∙ first.walks;
+      place = last.place ∙ first.place;
+      retired = last.retired ∙ first.retired;
     }
 
 -- one page's event, if it has one
@@ -145,6 +149,8 @@ lower_one F S a p page None s found frames space = (
     structure = space.structure;
     table = space.table;
     walks = space.walks;
+    place = space.place;
+    retired = space.retired;
   },
 )
   where
@@ -167,6 +173,8 @@ lower_one F S a p page (Some e) s found frames space = go e.writable refl
         structure = space.structure;
         table = space.table;
         walks = space.walks;
+        place = space.place;
+        retired = space.retired;
       },
     )
     go false is = (
@@ -180,6 +188,8 @@ lower_one F S a p page (Some e) s found frames space = go e.writable refl
         structure = space.structure;
         table = space.table;
         walks = space.walks;
+        place = space.place;
+        retired = space.retired;
       },
     )
 
@@ -195,6 +205,8 @@ lowered_rest page n S S' h =
       structure = h.structure;
       table = h.table;
       walks = h.walks;
+      place = h.place;
+      retired = h.retired;
     }
 
 lowered_shown : (page : ℕ) (S S' : SpaceValue) → IsLowered page 0 S S' → IsShownAs S S'
@@ -208,6 +220,8 @@ lowered_shown page S S' h =
       structure = sym h.structure;
       table = sym h.table;
       walks = sym h.walks;
+      place = sym h.place;
+      retired = sym h.retired;
     }
   where
     nothing : (g : ℕ) → lowered page 0 S.entry g ≡ S.entry g
@@ -261,6 +275,8 @@ rights_behind page n rights S S1 S' low h =
       structure = low.structure ∙ sym h.structure;
       table = low.table ∙ sym h.table;
       walks = low.walks ∙ sym h.walks;
+      place = low.place ∙ sym h.place;
+      retired = low.retired ∙ sym h.retired;
     }
 
 protect_by : (rights : Rights) (F : FramesValue) (S S' : SpaceValue) (a p page n : ℕ) (s : CoreState) → IsLoweredFor rights page n (with_rights page n rights S) S'
@@ -268,7 +284,7 @@ protect_by : (rights : Rights) (F : FramesValue) (S S' : SpaceValue) (a p page n
     → Leads (ShowsAlone p) (view F S') s (protect_turn_by None s a p page n rights) (protected_whats a p page n rights)
 protect_by R F S S' a p page n s h shown =
     let S1 : SpaceValue = record S { entry = lowered page n S.entry } in
-    let low : IsLowered page n S S1 = record { right = refl; pages = refl; entry = λ g. refl; sequence = refl; has_pinned = refl; structure = refl; table = refl; walks = refl } in
+    let low : IsLowered page n S S1 = record { right = refl; pages = refl; entry = λ g. refl; sequence = refl; has_pinned = refl; structure = refl; table = refl; walks = refl; place = refl; retired = refl } in
     let es : List CoreEvent = lowers (s.entry p) a p page n in
     let all = lower_all F S S1 a p page n (s.entry p) s (λ g above. shown.space.entry g) low shown.frames shown.space in
     let same : run s (es ++ protect_pages a p page n R ∷ []) ≡ happens (run s es) (protect_pages a p page n R) = run_behind s es (protect_pages a p page n R ∷ []) in
@@ -333,4 +349,6 @@ lowered_entry page e old new found same =
       structure = refl;
       table = refl;
       walks = refl;
+      place = refl;
+      retired = refl;
     })

@@ -24,6 +24,8 @@ pub record IsLowered (page n : ℕ) (old new : SpaceValue) : Type 0 where
   pub structure : new.structure ≡ old.structure
   pub table : new.table ≡ old.table
   pub walks : new.walks ≡ old.walks
+  pub place : new.place ≡ old.place
+  pub retired : new.retired ≡ old.retired
 
 -- so it is for rights that don't allow a write
 abbrev pub IsLoweredFor : Rights → (page n : ℕ) → (old new : SpaceValue) → Type 0

@@ -2,7 +2,8 @@
 ghost use Rattle.std.specs.Prelude.{◌≡◌, ◌≤◌, true, false, not, is_none, Some, None, IsSome, OnOk};
 ghost use Rattle.gup_base.specs.declared.entry.Allowed.TheVariants.{Any};
 ghost use Rattle.gup_spec_events.specs.Fault.{read_fault};
-ghost use Rattle.gup_frames.specs.Frames.{frames_of, IsFrame, free_frame, with_word};
+ghost use Rattle.gup_frames.specs.Frames.{frames_of, IsFrame, with_word};
+ghost use Rattle.gup_space.specs.Found.{found_for};
 ghost use Rattle.gup_space.specs.Space.{space_of};
 ghost use Rattle.gup_space.specs.Shows.{change_of};
 ghost use Rattle.gup_fault.specs.Refused.{answer_of as answered, denial_of};
@@ -73,16 +74,16 @@ fn load_by_fault(
 }
 
 /// Makes the page present, as a load does it: any entry is enough, and a page that has none gets a frame of zeros. A page
-/// without a mapping is refused with `Missing`, and one that finds no frame with `NoFrame`; then nothing has changed.
+/// without a mapping is refused with `Missing`, and one that lacks a page table or finds no frame with `NoFrame`; then nothing
+/// has changed.
 #[inline]
 pub fn make_present(space: &mut Space, frames: &mut Frames, page: PageNo) -> Result<(), Denied>
     requires { IsTidy (frames_of frames.old) (space_of space.old) }
     ensures fault { IsFault (change_of frames.old frames.new space.old space.new) (denial_of result)
         (λ a p. read_fault a p page ((space_of space.old).right page) ((space_of space.old).entry page)
-        (free_frame (frames_of frames.old) Any)) }
+        (found_for (frames_of frames.old) (space_of space.old) page Any)) }
     ensures entry { OnOk result (IsSome ((space_of space.new).entry page)) }
 {
-    space.has_room(page);
     ready_read(space, frames, page, Allowed::Any)
 }
 
@@ -180,7 +181,6 @@ fn store_by_fault(
         (λ said. IsTurnOf (ShowsAlone proc) Anywhere (alone_view frames.old space.old) (alone_view frames.new space.new)
         (λ s. store_turn s head.now.actor proc page word value (s.entry proc page)) (whats_of said)) }
 {
-    space.has_room(page);
     match ready_write(space, frames, page, Allowed::Any) {
         Ok(()) => {
             frames.are_there();

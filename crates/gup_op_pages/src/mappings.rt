@@ -117,6 +117,7 @@ fn lower_page(space: &mut Space, page: PageNo)
         return;
     };
     if entry.writable {
+        space.has_path(page);
         let writable = false;
         space.set_entry(
             page,

@@ -158,7 +158,7 @@ frame_is (Some e) frame is = cc
 -- has-pinned is set already
 flag_again : (p : ℕ) (S : SpaceValue) (s : CoreState) → s.has_pinned p ≡ true → ShowsSpace p S s → ShowsSpace p (record S { has_pinned = true }) s
 flag_again p S s flag h =
-    record { right = h.right; pages = h.pages; entry = h.entry; sequence = h.sequence; has_pinned = flag; structure = h.structure; table = h.table; walks = h.walks }
+    record { right = h.right; pages = h.pages; entry = h.entry; sequence = h.sequence; has_pinned = flag; structure = h.structure; table = h.table; walks = h.walks; place = h.place; retired = h.retired }
 
 take_page : (old new : PinningView) (F1 : FramesValue) (S2 : SpaceValue) (a p handle page frame : ℕ) (want : Want) (last : Bool) (e : Entry) (s : CoreState)
     → e.frame ≡ frame → new.frames ≡ with_references frame 1024 F1 → new.space ≡ record S2 { has_pinned = true } → IsMade last old.pins new.pins old.taken new.taken a handle frame want.write
@@ -485,7 +485,7 @@ module _ (old new : PinningView) (a p handle page n got far g : ℕ) (here : g �
         shown = record {
           frames = subst (λ (x : FramesValue). ShowsFrames x t) (sym frames) (record { movable = f.movable; normal = f.normal; count = f.count; mark = f.mark; word = f.word; needs_tables = f.needs_tables });
           space = subst (λ (x : SpaceValue). ShowsSpace p x t) (sym space)
-              (record { right = sp.right; pages = sp.pages; entry = sp.entry; sequence = sp.sequence; has_pinned = sp.has_pinned; structure = sp.structure; table = sp.table; walks = sp.walks });
+              (record { right = sp.right; pages = sp.pages; entry = sp.entry; sequence = sp.sequence; has_pinned = sp.has_pinned; structure = sp.structure; table = sp.table; walks = sp.walks; place = sp.place; retired = sp.retired });
           pins = subst (λ (x : HandlesValue). ShowsHandles x t) (sym pins) shown.pins;
           taken = shown.taken ∙ sym taken;
           place = ap (λ (j : Job). job_place j (s.prepared a)) (put_own a job s.job) ∙ sym place.0;

@@ -11,7 +11,8 @@ use Rattle.gup_base.specs.declared.entry.Zone.TheVariants.{Normal}
 use Rattle.gup_plain.specs.Put.{put}
 use Rattle.gup_frames.specs.Frames.{FramesValue, IsFrame, free_frame, taken, with_mark}
 use Rattle.gup_bits.proofs.Lowest.{lowest_some}
-use Rattle.gup_space.specs.Space.{SpaceValue}
+use Rattle.gup_space.specs.Space.{SpaceValue, lacking}
+use Rattle.gup_space.specs.Found.{found_for}
 use Rattle.gup_space.specs.Shows.{Change, ShowsFrames, ShowsSpace}
 use Rattle.gup_space.proofs.ShowsLemmas.{events_lead}
 use Rattle.gup_spec_events.specs.State.{CoreState, Job, idle, forking, copying}
@@ -56,13 +57,13 @@ pub pin_fault_same : (F : FramesValue) (S : SpaceValue) (a p page : ℕ) (write 
 pin_fault_same F S a p page true allowed s frames space =
     ap (λ r. write_fault a p page r (s.entry p page) s.mark s.count (frame_for s p page allowed)) (space.right page)
     ∙ ap (λ o. write_fault a p page (S.right page) o s.mark s.count (frame_for s p page allowed)) (space.entry page)
-    ∙ ap (λ o. write_fault a p page (S.right page) (S.entry page) s.mark s.count o) (frame_agrees F p page allowed s frames)
-    ∙ write_fault_reads F a p page (S.right page) (S.entry page) (free_frame F allowed) s frames
+    ∙ ap (λ o. write_fault a p page (S.right page) (S.entry page) s.mark s.count o) (frame_agrees F S p page allowed s frames space)
+    ∙ write_fault_reads F a p page (S.right page) (S.entry page) (found_for F S page allowed) s frames
 pin_fault_same F S a p page false allowed s frames space =
     ap (λ r. unshare_fault a p page r (s.entry p page) s.mark s.count (frame_for s p page allowed)) (space.right page)
     ∙ ap (λ o. unshare_fault a p page (S.right page) o s.mark s.count (frame_for s p page allowed)) (space.entry page)
-    ∙ ap (λ o. unshare_fault a p page (S.right page) (S.entry page) s.mark s.count o) (frame_agrees F p page allowed s frames)
-    ∙ unshare_fault_reads F a p page (S.right page) (S.entry page) (free_frame F allowed) s frames
+    ∙ ap (λ o. unshare_fault a p page (S.right page) (S.entry page) s.mark s.count o) (frame_agrees F S p page allowed s frames space)
+    ∙ unshare_fault_reads F a p page (S.right page) (S.entry page) (found_for F S page allowed) s frames
 
 -- the flag is not read
 pub fault_raised : (F : FramesValue) (S : SpaceValue) (a p page got : ℕ) (fast write : Bool) (allowed : Allowed) → fault_to_pin F (raised got fast S) a p page write allowed ≡ fault_to_pin F S a p page write allowed
@@ -131,8 +132,8 @@ write_fault_leaves a p page (Some RW) (Some d) mark count free s = by_entry d.wr
     by_entry false = makes_writable_leaves a p page d (mark d.frame) (count d.frame) free s
 
 pub pin_fault_leaves : (F : FramesValue) (S : SpaceValue) (a p page : ℕ) (write : Bool) (allowed : Allowed) (s : CoreState) → IsLeft a s (run s (events_of (fault_to_pin F S a p page write allowed)))
-pin_fault_leaves F S a p page true allowed s = write_fault_leaves a p page (S.right page) (S.entry page) F.mark F.count (free_frame F allowed) s
-pin_fault_leaves F S a p page false allowed s = unshare_fault_leaves a p page (S.right page) (S.entry page) F.mark F.count (free_frame F allowed) s
+pin_fault_leaves F S a p page true allowed s = write_fault_leaves a p page (S.right page) (S.entry page) F.mark F.count (found_for F S page allowed) s
+pin_fault_leaves F S a p page false allowed s = unshare_fault_leaves a p page (S.right page) (S.entry page) F.mark F.count (found_for F S page allowed) s
 
 read_fault_leaves : (a p page : ℕ) (rights : Option Rights) (entry : Option Entry) (free : Option ℕ) (s : CoreState) → IsLeft a s (run s (events_of (read_fault a p page rights entry free)))
 read_fault_leaves a p page None entry free s = left_alone a s
@@ -141,10 +142,10 @@ read_fault_leaves a p page (Some rights) (Some d) free s = left_alone a s
 
 -- the fault of a get, by what it finds
 abbrev pub fault_to_get : FramesValue → SpaceValue → (a p page : ℕ) → Fault
-fault_to_get F S a p page = read_fault a p page (S.right page) (S.entry page) (free_frame F Any)
+fault_to_get F S a p page = read_fault a p page (S.right page) (S.entry page) (found_for F S page Any)
 
 pub get_fault_leaves : (F : FramesValue) (S : SpaceValue) (a p page : ℕ) (s : CoreState) → IsLeft a s (run s (events_of (fault_to_get F S a p page)))
-get_fault_leaves F S a p page s = read_fault_leaves a p page (S.right page) (S.entry page) (free_frame F Any) s
+get_fault_leaves F S a p page s = read_fault_leaves a p page (S.right page) (S.entry page) (found_for F S page Any) s
 
 -- an actor that keeps no place keeps none, whatever frame it has prepared
 unbegun_still : (job : Job) (before after : Option ℕ) → job_place job before ≡ unbegun → job_place job after ≡ unbegun
@@ -160,7 +161,7 @@ read_fault_rests a p page (Some rights) None (Some f) s rests = unbegun_still (s
 read_fault_rests a p page (Some rights) (Some d) free s rests = rests
 
 pub get_fault_rests : (F : FramesValue) (S : SpaceValue) (a p page : ℕ) (s : CoreState) → place_in s a ≡ unbegun → place_in (run s (events_of (fault_to_get F S a p page))) a ≡ unbegun
-get_fault_rests F S a p page s rests = read_fault_rests a p page (S.right page) (S.entry page) (free_frame F Any) s rests
+get_fault_rests F S a p page s rests = read_fault_rests a p page (S.right page) (S.entry page) (found_for F S page Any) s rests
 
 -- ---- the count that a fault leaves
 
@@ -240,12 +241,12 @@ write_fault_counts a p page many (Some RW) (Some d) mark count free s more other
     by_entry true ok g at = before g at
     by_entry false ok g at = writable_counts a p page many d (mark d.frame) (count d.frame) free s more other had before ok g at
 
-pin_fault_counts : (F : FramesValue) (S : SpaceValue) (page many : ℕ) (write : Bool) (allowed : Allowed) → 1 < many → IsApart (free_frame F allowed) (S.entry page) → IsCountedAt (state_of F S) 0 page many
+pin_fault_counts : (F : FramesValue) (S : SpaceValue) (page many : ℕ) (write : Bool) (allowed : Allowed) → 1 < many → IsApart (found_for F S page allowed) (S.entry page) → IsCountedAt (state_of F S) 0 page many
     → refusal_of (fault_to_pin F S 0 0 page write allowed) ≡ None → IsCountedAt (run (state_of F S) (events_of (fault_to_pin F S 0 0 page write allowed))) 0 page many
 pin_fault_counts F S page many true allowed more other before done =
-    write_fault_counts 0 0 page many (S.right page) (S.entry page) F.mark F.count (free_frame F allowed) (state_of F S) more other refl before done
+    write_fault_counts 0 0 page many (S.right page) (S.entry page) F.mark F.count (found_for F S page allowed) (state_of F S) more other refl before done
 pin_fault_counts F S page many false allowed more other before done =
-    unshare_fault_counts 0 0 page many (S.right page) (S.entry page) F.mark F.count (free_frame F allowed) (state_of F S) more other before done
+    unshare_fault_counts 0 0 page many (S.right page) (S.entry page) F.mark F.count (found_for F S page allowed) (state_of F S) more other before done
 
 read_fault_counts : (a p page many : ℕ) (rights : Option Rights) (entry : Option Entry) (free : Option ℕ) (s : CoreState) → 1 < many → IsCountedAt s p page many → refusal_of (read_fault a p page rights entry free) ≡ None
     → IsCountedAt (run s (events_of (read_fault a p page rights entry free))) p page many
@@ -261,6 +262,14 @@ some_positive (suc n) none = omega arith
 
 not_zero : (n : ℕ) → 0 < n → n ≡ 0 → ⊥
 not_zero n some none = omega arith
+
+-- what is found for a page is the free frame
+found_is_free : (F : FramesValue) (S : SpaceValue) (page : ℕ) (allowed : Allowed) (f : ℕ) → found_for F S page allowed ≡ Some f → free_frame F allowed ≡ Some f
+found_is_free F S page allowed f is = go (lacking S page == 0) is
+  where
+    go : (none : Bool) → (if none then free_frame F allowed else None) ≡ Some f → free_frame F allowed ≡ Some f
+    go true found = found
+    go false found = absurd (cc)
 
 -- the free frame is no entry's
 free_apart : (F : FramesValue) (S : SpaceValue) (allowed : Allowed) (page f : ℕ) (d : Entry) → IsTidy F S → free_frame F allowed ≡ Some f → S.entry page ≡ Some d → f ≡ d.frame → ⊥
@@ -278,7 +287,7 @@ counts_behind c page many write allowed more tidy few unlocked fault e found =
     let t : CoreState = run (state_of F S) (events_of (fault_to_pin F S 0 0 page write allowed)) in
     let behind = events_lead fault.events (state_of F S) 0 0 (has_frames F S) (has_space F S 0) unlocked in
     let before : IsCountedAt (state_of F S) 0 page many = λ d at. (some_positive (F.count d.frame) (tidy.counted page d at), few d.frame) in
-    let counted = pin_fault_counts F S page many write allowed more (λ f d free had. free_apart F S allowed page f d tidy free had) before (fault.refused 0 0) e (behind.1.entry page ∙ found) in
+    let counted = pin_fault_counts F S page many write allowed more (λ f d free had. free_apart F S allowed page f d tidy (found_is_free F S page allowed f free) had) before (fault.refused 0 0) e (behind.1.entry page ∙ found) in
     subst (λ n. (0 < n) × (n < many)) (behind.0.count e.frame) counted
 
 has_some : (entry : Option Entry) (P : Entry → Type 0) → HasEntry entry P → (e : Entry) → entry ≡ Some e → P e
@@ -410,5 +419,5 @@ gettable_behind c page (Ok ok) tidy few unlocked fault there some =
         let S : SpaceValue = c.old_space in
         let behind = events_lead fault.events (state_of F S) 0 0 (has_frames F S) (has_space F S 0) unlocked in
         let before : IsCountedAt (state_of F S) 0 page (2 ^ 40) = λ d at. (some_positive (F.count d.frame) (tidy.counted page d at), few d.frame) in
-        let counted = read_fault_counts 0 0 page (2 ^ 40) (S.right page) (S.entry page) (free_frame F Any) (state_of F S) (omega arith) before (fault.refused 0 0) e (behind.1.entry page ∙ found) in
+        let counted = read_fault_counts 0 0 page (2 ^ 40) (S.right page) (S.entry page) (found_for F S page Any) (state_of F S) (omega arith) before (fault.refused 0 0) e (behind.1.entry page ∙ found) in
         subst (λ n. (0 < n) × (n < 2 ^ 40)) (behind.0.count e.frame) counted

@@ -9,8 +9,9 @@ use Rattle.gup_plain.specs.State as plain
 use Rattle.gup_plain.specs.declared.answer.Answer.{Answer}
 use Rattle.gup_plain.specs.declared.answer.Answer.TheVariants as answers
 use Rattle.gup_plain.specs.declared.note.What.TheVariants.{Done}
-use Rattle.gup_frames.specs.Frames.{FramesValue, IsFrame, free_frame, with_references, without_references}
+use Rattle.gup_frames.specs.Frames.{FramesValue, IsFrame, with_references, without_references}
 use Rattle.gup_space.specs.Space.{SpaceValue}
+use Rattle.gup_space.specs.Found.{found_for}
 use Rattle.gup_space.specs.Shows.{ShowsFrames, ShowsSpace}
 use Rattle.gup_space.proofs.After.{getting, putting_back}
 use Rattle.gup_space.proofs.ShowsLemmas.{shows_frames, shows_space, events_lead}
@@ -45,14 +46,14 @@ get_fault_same : (F : FramesValue) (S : SpaceValue) (a p page : ℕ) (s : CoreSt
     → load_fault s a p page (s.entry p page) ≡ fault_to_get F S a p page
 get_fault_same F S a p page s mapped frames space = ap (λ o. load_fault s a p page o) (space.entry page) ∙ go (S.entry page) refl
   where
-    with_entry : (e : Entry) (rights : Option Rights) → IsSome rights → Ok [] ≡ read_fault a p page rights (Some e) (free_frame F Any)
+    with_entry : (e : Entry) (rights : Option Rights) → IsSome rights → Ok [] ≡ read_fault a p page rights (Some e) (found_for F S page Any)
     with_entry e None none = absurd (cc)
     with_entry e (Some rights) some = refl
 
-    go : (o : Option Entry) → S.entry page ≡ o → load_fault s a p page o ≡ read_fault a p page (S.right page) o (free_frame F Any)
+    go : (o : Option Entry) → S.entry page ≡ o → load_fault s a p page o ≡ read_fault a p page (S.right page) o (found_for F S page Any)
     go None is =
         ap (λ r. read_fault a p page r None (frame_for s p page Any)) (space.right page)
-        ∙ ap (λ o. read_fault a p page (S.right page) None o) (frame_agrees F p page Any s frames)
+        ∙ ap (λ o. read_fault a p page (S.right page) None o) (frame_agrees F S p page Any s frames space)
     go (Some e) is = with_entry e (S.right page) (mapped e is)
 
 -- the handle is of a reference of this frame

@@ -155,7 +155,7 @@ all_kept old new a p handle page n far sequence want fast place no_end all some 
       shown = record {
         frames = subst (λ (x : FramesValue). ShowsFrames x t) (sym frames) (record { movable = f.movable; normal = f.normal; count = f.count; mark = f.mark; word = f.word; needs_tables = f.needs_tables });
         space = subst (λ (x : SpaceValue). ShowsSpace p x t) (sym space)
-            (record { right = sp.right; pages = sp.pages; entry = sp.entry; sequence = sp.sequence; has_pinned = sp.has_pinned; structure = sp.structure; table = sp.table; walks = put_own p (s.walks p - 1) s.walks ∙ ap (λ (n : ℕ). n - 1) sp.walks });
+            (record { right = sp.right; pages = sp.pages; entry = sp.entry; sequence = sp.sequence; has_pinned = sp.has_pinned; structure = sp.structure; table = sp.table; walks = put_own p (s.walks p - 1) s.walks ∙ ap (λ (n : ℕ). n - 1) sp.walks; place = sp.place; retired = sp.retired });
         pins = subst (λ (x : HandlesValue). ShowsHandles x t) (sym pins) (pins_made old.pins a handle old.taken want.write u shown.taken writes yet shown.pins);
         taken = none_taken a handle u ∙ sym taken;
         place = ap (λ (j : Job). job_place j (s.prepared a)) (put_own a idle u1.job) ∙ sym rests.0;
@@ -232,7 +232,7 @@ walk_begins old new a p handle page n many far want fast begins begun frames spa
       shown = record {
         frames = subst (λ (x : FramesValue). ShowsFrames x t) (sym frames) (record { movable = f.movable; normal = f.normal; count = f.count; mark = f.mark; word = f.word; needs_tables = f.needs_tables });
         space = subst (λ (x : SpaceValue). ShowsSpace p x t) (sym space)
-            (record { right = sp.right; pages = sp.pages; entry = sp.entry; sequence = sp.sequence; has_pinned = put_own p true s.has_pinned; structure = sp.structure; table = sp.table; walks = put_own p (s.walks p + 1) s.walks ∙ ap (λ (n : ℕ). n + 1) sp.walks });
+            (record { right = sp.right; pages = sp.pages; entry = sp.entry; sequence = sp.sequence; has_pinned = put_own p true s.has_pinned; structure = sp.structure; table = sp.table; walks = put_own p (s.walks p + 1) s.walks ∙ ap (λ (n : ℕ). n + 1) sp.walks; place = sp.place; retired = sp.retired });
         pins = subst (λ (x : HandlesValue). ShowsHandles x t) (sym pins) shown.pins;
         taken = shown.taken ∙ sym taken;
         place = ap (λ (j : Job). job_place j (s.prepared a)) (put_own a (walking p want.write want.long 0 entered) s.job) ∙ sym place;

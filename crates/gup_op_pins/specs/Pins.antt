@@ -9,8 +9,9 @@ use Rattle.gup_plain.specs.declared.answer.Answer.TheVariants as answers
 use Rattle.gup_plain.specs.declared.event.PlainEvent.TheVariants as events
 use Rattle.gup_plain.specs.declared.note.What.{What}
 use Rattle.gup_plain.specs.declared.note.What.TheVariants.{Event, Done}
-use Rattle.gup_frames.specs.Frames.{FramesValue, FrameLists, frames_of, IsFrame, free_frame, with_references}
-use Rattle.gup_space.specs.Space.{SpaceValue, SpaceParts, space_of}
+use Rattle.gup_frames.specs.Frames.{FramesValue, FrameLists, frames_of, IsFrame, with_references}
+use Rattle.gup_space.specs.Space.{SpaceValue, SpaceParts, space_of, lacking}
+use Rattle.gup_space.specs.Found.{found_for}
 use Rattle.gup_space.specs.Shows.{ShowsFrames, ShowsSpace}
 use Rattle.gup_handles.specs.Handles.{HandleValue, HandlesValue, handles_of, unmade, held, given, got, gone}
 use Rattle.gup_handles.specs.Shows.{ShowsHandles}
@@ -55,9 +56,9 @@ raised many fast space = space
 -- the fault of a page of a pin, by what it finds of frames and the process
 abbrev pub fault_to_pin : FramesValue → SpaceValue → (a p page : ℕ) → (write : Bool) → Allowed → Fault
 fault_to_pin frames space a p page true allowed =
-    write_fault a p page (space.right page) (space.entry page) frames.mark frames.count (free_frame frames allowed)
+    write_fault a p page (space.right page) (space.entry page) frames.mark frames.count (found_for frames space page allowed)
 fault_to_pin frames space a p page false allowed =
-    unshare_fault a p page (space.right page) (space.entry page) frames.mark frames.count (free_frame frames allowed)
+    unshare_fault a p page (space.right page) (space.entry page) frames.mark frames.count (found_for frames space page allowed)
 
 -- what a pin of this kind asks for, that isn't long-term
 abbrev pub want_of : (write : Bool) → Want
@@ -104,12 +105,14 @@ pub record ShowsPinning (a p : ℕ) (view : PinningView) (s : CoreState) : Type 
   pub last : EndAt view.last (s.taken a)
 
 -- What a pin finds where it stands at this page. One that has cleared its entry is for long, and the process has pinned; the page is
--- mapped and has no entry, and the frame of the one that was cleared is there, not free, marked, and right for the pin.
+-- mapped, has no entry and lacks none of its page tables, and the frame of the one that was cleared is there, not free, marked, and
+-- right for the pin.
 pub record IsCleared (frames : FramesValue) (page : ℕ) (want : Want) (e : Entry) (space : SpaceValue) : Type 0 where
   pub long : want.long ≡ true
   pub pinned : space.has_pinned ≡ true
   pub mapped : IsSome (space.right page)
   pub absent : space.entry page ≡ None
+  pub path : lacking space page ≡ 0
   pub there : IsFrame frames e.frame
   pub held : frames.count e.frame ≡ 0 → ⊥
   pub marked : frames.mark e.frame ≡ true

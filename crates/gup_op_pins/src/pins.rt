@@ -227,7 +227,6 @@ fn place_turn(
         (pinning_view frames.old space.old handles.old taken.old.items (Single entry page))
         (pinning_view frames.new space.new handles.new taken.new.items Unbegun) (whats_of said)) }
 {
-    space.has_room(page);
     let placed = place(space, frames, page, entry, Allowed::Only(Zone::Normal)).is_ok();
     space.set_table(None);
     if placed {
@@ -266,7 +265,6 @@ fn restore_turn(
         (pinning_view frames.now space.old handles.old taken.old.items (Shared entry page count))
         (pinning_view frames.now space.new handles.new taken.new.items Unbegun) (whats_of said)) }
 {
-    space.has_room(page);
     restore(space, page, entry);
     space.set_table(None);
     end_pin(
@@ -423,7 +421,6 @@ fn ready_to_write(
         (λ a p. fault_to_pin (frames_of frames.old) (space_of space.old) a p page true allowed) }
     ensures ready { OnOk result (IsReady (frames_of frames.new) (space_of space.new) page (want_of true)) }
 {
-    space.has_room(page);
     let ready = ready_write(space, frames, page, allowed);
     frames.are_there();
     ready
@@ -442,7 +439,6 @@ fn ready_to_read(
         (λ a p. fault_to_pin (frames_of frames.old) (space_of space.old) a p page false allowed) }
     ensures ready { OnOk result (IsReady (frames_of frames.new) (space_of space.new) page (want_of false)) }
 {
-    space.has_room(page);
     let ready = unshare(space, frames, page, allowed);
     frames.are_there();
     ready

@@ -2,8 +2,9 @@
 ghost use Rattle.std.specs.Prelude.{◌≡◌, ℕ, ◌≤◌, ◌<◌, ◌^◌, List, true, None, OnOk};
 ghost use Rattle.gup_base.specs.declared.entry.Allowed.TheVariants.{Any};
 ghost use Rattle.gup_spec_events.specs.Fault.{read_fault};
-ghost use Rattle.gup_frames.specs.Frames.{frames_of, free_frame};
+ghost use Rattle.gup_frames.specs.Frames.{frames_of};
 ghost use Rattle.gup_space.specs.Space.{space_of};
+ghost use Rattle.gup_space.specs.Found.{found_for};
 ghost use Rattle.gup_space.specs.Shows.{change_of};
 ghost use Rattle.gup_fault.specs.Refused.{denial_of};
 ghost use Rattle.gup_fault.specs.Faults.{IsFault};
@@ -28,7 +29,7 @@ use gup_space::Space;
 
 /// Gets a reference of the page's frame by the handle (Linux's `get_user_pages` of one page, `mm/gup.c`). The page is made
 /// present as a load does it, and the frame's count goes up by 1; a page without a mapping is refused with `Missing`, and one
-/// that finds no frame with `NoFrame`. With that the operation is over.
+/// that lacks a page table or finds no frame with `NoFrame`. With that the operation is over.
 #[inline]
 pub fn get(
     space: &mut Space,
@@ -68,10 +69,9 @@ fn ready(space: &mut Space, frames: &mut Frames, page: PageNo) -> Result<(), Den
     requires few { (f : ℕ) → (frames_of frames.old).count f < 2 ^ 40 }
     ensures fault { IsFault (change_of frames.old frames.new space.old space.new) (denial_of result)
         (λ a p. read_fault a p page ((space_of space.old).right page) ((space_of space.old).entry page)
-        (free_frame (frames_of frames.old) Any)) }
+        (found_for (frames_of frames.old) (space_of space.old) page Any)) }
     ensures ready { OnOk result (HasFrame (frames_of frames.new) (space_of space.new) page) }
 {
-    space.has_room(page);
     let ready = ready_read(space, frames, page, Allowed::Any);
     frames.are_there();
     ready

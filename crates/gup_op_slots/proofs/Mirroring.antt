@@ -8,7 +8,8 @@ use Rattle.gup_plain.specs.declared.answer.Answer.TheVariants as answers
 use Rattle.gup_plain.specs.declared.event.PlainEvent.TheVariants as events
 use Rattle.gup_plain.specs.declared.note.What.TheVariants.{Event, Done}
 use Rattle.gup_plain.specs.State.{Noted}
-use Rattle.gup_frames.specs.Frames.{FramesValue, free_frame}
+use Rattle.gup_frames.specs.Frames.{FramesValue}
+use Rattle.gup_space.specs.Found.{found_for}
 use Rattle.gup_space.specs.Space.{SpaceValue}
 use Rattle.gup_space.specs.Shows.{Change, ShowsFrames, ShowsSpace}
 use Rattle.gup_space.proofs.ShowsLemmas.{events_lead}
@@ -34,14 +35,14 @@ view F S M = record { frames = F; space = S; mirrors = M }
 
 -- what is read of frames and a process, which is a load's, whether the page has an entry or not
 abbrev pub fault_to_mirror : Change → (a p page : ℕ) → Fault
-fault_to_mirror c a p page = read_fault a p page (c.old_space.right page) (c.old_space.entry page) (free_frame c.old_frames Any)
+fault_to_mirror c a p page = read_fault a p page (c.old_space.right page) (c.old_space.entry page) (found_for c.old_frames c.old_space page Any)
 
 -- a state's fault is that one
 mirror_fault_same : (c : Change) (a p page : ℕ) (s : CoreState) → IsTidy c.old_frames c.old_space → ShowsFrames c.old_frames s → ShowsSpace p c.old_space s
     → load_fault s a p page (s.entry p page) ≡ fault_to_mirror c a p page
 mirror_fault_same c a p page s tidy frames space = go (c.old_space.entry page) refl
   where
-    present : (e : Entry) (rights : Option Rights) → IsSome rights → Ok [] ≡ read_fault a p page rights (Some e) (free_frame c.old_frames Any)
+    present : (e : Entry) (rights : Option Rights) → IsSome rights → Ok [] ≡ read_fault a p page rights (Some e) (found_for c.old_frames c.old_space page Any)
     present e None none = absurd (cc)
     present e (Some rights) some = refl
 
@@ -50,7 +51,7 @@ mirror_fault_same c a p page s tidy frames space = go (c.old_space.entry page) r
     go (Some e) is =
         ap (λ o. load_fault s a p page o) (space.entry page ∙ is)
         ∙ present e (c.old_space.right page) (tidy.mapped page e is)
-        ∙ ap (λ o. read_fault a p page (c.old_space.right page) o (free_frame c.old_frames Any)) (sym is)
+        ∙ ap (λ o. read_fault a p page (c.old_space.right page) o (found_for c.old_frames c.old_space page Any)) (sym is)
 
 -- and its events leave all slots
 abbrev pub KeepsSlots : (s t : CoreState) → Type 0
@@ -94,7 +95,7 @@ fill_behind new M a p mirror page es s some filled frames space mirrors =
           subst (λ (x : CoreState). ShowsMirroring p new x) (sym after)
           (record {
             frames = record { movable = frames.movable; normal = frames.normal; count = frames.count; mark = frames.mark; word = frames.word; needs_tables = frames.needs_tables };
-            space = record { right = space.right; pages = space.pages; entry = space.entry; sequence = space.sequence; has_pinned = space.has_pinned; structure = space.structure; table = space.table; walks = space.walks };
+            space = record { right = space.right; pages = space.pages; entry = space.entry; sequence = space.sequence; has_pinned = space.has_pinned; structure = space.structure; table = space.table; walks = space.walks; place = space.place; retired = space.retired };
             mirrors = filled e found t mirrors;
           });
     }
@@ -115,7 +116,7 @@ pub slot_filled : (c : Change) (M M' : MirrorsValue) (a p mirror page : ℕ) →
     (Event (events.MirrorFill a mirror p page) ∷ Done answers.Plain ∷ [])
 slot_filled c M M' a p mirror page tidy unlocked fault some filled s shown stands =
     let led = events_lead fault.events s a p shown.frames shown.space (shown.space.table ∙ unlocked) in
-    let kept = fault_keeps a p page (c.old_space.right page) (c.old_space.entry page) (free_frame c.old_frames Any) s in
+    let kept = fault_keeps a p page (c.old_space.right page) (c.old_space.entry page) (found_for c.old_frames c.old_space page Any) s in
     leads_alike (ap (λ (x : Fault). fills_after s x a p mirror page) (mirror_fault_same c a p page s tidy shown.frames shown.space))
     (fill_after (view c.new_frames c.new_space M') M (fault_to_mirror c a p page) a p mirror page s (fault.refused a p) some filled led.0 led.1
     (slots_shown M s (run s (events_of (fault_to_mirror c a p page))) kept shown.mirrors))

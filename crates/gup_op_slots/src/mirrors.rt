@@ -21,7 +21,8 @@ use gup_space::Space;
 /// Fills the slot with the page of the process, and with the frame that the page has. The page is made present as a load does
 /// it, as Linux's `hmm_range_fault` (`mm/hmm.c`) faults a page by `handle_mm_fault` before it hands out its frame; no reference
 /// of the frame is taken, and what the slot was filled with before is gone. A page without a mapping is refused with `Missing`,
-/// and one that finds no frame with `NoFrame`, and then the slot stays as it was. With that the operation is over.
+/// and one that lacks a page table or finds no frame with `NoFrame`, and then the slot stays as it was. With that the operation
+/// is over.
 #[inline]
 pub fn mirror(
     space: &mut Space,

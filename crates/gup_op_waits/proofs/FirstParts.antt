@@ -72,7 +72,7 @@ parts_shown script parts none spaces many births handles taken stores =
           (record { movable = refl; normal = refl; count = λ f. refl; mark = λ f. refl; word = λ f w. refl; needs_tables = refl });
       spaces = λ p space here.
           subst (λ (S : SpaceValue). ShowsSpace p S (run_start script).core) (sym (all_at (λ (s : SpaceParts). space_of s ≡ no_space) parts.spaces.items p space spaces here))
-          (record { right = λ g. refl; pages = refl; entry = λ g. refl; sequence = refl; has_pinned = refl; structure = refl; table = refl; walks = refl });
+          (record { right = λ g. refl; pages = refl; entry = λ g. refl; sequence = refl; has_pinned = refl; structure = refl; table = refl; walks = refl; place = refl; retired = refl });
       births = λ p birth here. first_birth (starts_born script p) birth (birth_found script parts.births.items p birth many births here);
       pins = subst (λ (H : HandlesValue). ShowsHandles H (run_start script).core) (sym handles) (λ h. (refl, refl));
       taken = λ a pages here. no_pages pages.items (all_at (λ (x : ArrayVec ℕ). length x.items ≡ 0) parts.taken.items a pages taken here);

@@ -3,3 +3,5 @@ pub mod Reclaimed
 pub mod Reclaims
 pub mod Taken
 pub mod TakenOut
+pub mod Fuller
+pub mod PathWords

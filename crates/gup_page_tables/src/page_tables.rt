@@ -1,17 +1,20 @@
 //! The page tables of one process.
-ghost use Rattle.std.specs.Prelude.{◌≡◌, ℕ, ◌+◌, ◌-◌, ◌<◌, ◌≤◌, ◌^◌, ◌==◌, nat_lt, if◌then◌else◌, [], true, false, is_err, None, Some, IfOk, IfSome, IsSome, OnOk, OnErr, MatchOption};
+ghost use Rattle.std.specs.Prelude.{◌≡◌, ℕ, ◌+◌, ◌-◌, ◌<◌, ◌≤◌, ◌^◌, ◌==◌, nat_lt, if◌then◌else◌, [], length, true, false, is_err, None, Some, IfOk, IfSome, IsSome, OnOk, OnErr, MatchOption, OnSome};
 ghost use Rattle.std.specs.VecDeque.Iter.{deque_iter_rest};
+ghost use Rattle.gup_base.specs.Packing.{pack_of};
 ghost use Rattle.gup_limbo.specs.Limbo.{LimboValue};
 ghost use Rattle.gup_maps.specs.Table.{IsNextPage, IsLastPage};
 ghost use Rattle.gup_tables.specs.Pool.{pool_of, free_tables};
-ghost use Rattle.gup_spec_tables.specs.Tables.{table_at, on_path, lacks, detachable, with_entry, word_of, is_among, AreApart};
+ghost use Rattle.gup_spec_tables.specs.Tables.{table_at, on_path, lacks, detachable, with_entry, word_of, read_on, is_among, AreApart};
+ghost use Rattle.gup_spec_tables.specs.Paths.{path_to, entry_at, leads_still, KeepsPath};
+ghost use Rattle.gup_tables.specs.Path.{tables_on};
 ghost use Rattle.gup_tables.specs.Tree.{tree_of};
 ghost use Rattle.gup_page_tables.specs.PageTables.{tables_of, no_tables, both, some_of, all_of, has_table, IsOf, freed_by, cleared, reclaims, grows, retires, shrinks};
 ghost use Rattle.gup_page_tables.specs.Kept.{IsKept};
 
-use gup_base::{Entry, NoMemory, PageNo};
+use gup_base::{Entry, NoMemory, PageNo, unpack};
 use gup_limbo::{Limbo, Reclaim};
-use gup_tables::{Place, Pool, Table, TableNo, Tree};
+use gup_tables::{Path, Place, Pool, Table, TableNo, Tree, index, link};
 use std::alloc::Global;
 use std::collections::vec_deque::Iter;
 use std::error::Error;
@@ -71,6 +74,8 @@ fn take_all(tree: &mut Tree, limbo: &Limbo<Table>, pool: &mut Pool, page: PageNo
         ≡ grows page (lacks (tree_of tree.old) page) (all_of tree.old limbo.now (pool_of pool.old)) }
     ensures complete { lacks (tree_of tree.new) page ≡ 0 }
     ensures entries { (tree_of tree.new).entry ≡ (tree_of tree.old).entry }
+    ensures room { (tree_of tree.new).room ≡ (tree_of tree.old).room }
+    ensures full { (g : ℕ) → lacks (tree_of tree.old) g ≡ 0 → lacks (tree_of tree.new) g ≡ 0 }
     ensures own { IsOf (all_of tree.new limbo.now (pool_of pool.new)) }
     ensures kept { IsKept (some_of tree.new limbo.now) }
 {
@@ -182,12 +187,64 @@ impl PageTables {
         self.tree.word_at(table, i)
     }
 
+    /// The tables of the page's path, as [`Tree::path`] reads them: `None` exactly where one is missing.
+    #[inline]
+    pub fn path(&self, page: PageNo) -> Option<Path>
+        ensures path { MatchOption result (0 < lacks (tables_of self.now).tree page)
+            (λ path. path_to (tables_of self.now).tree page ≡ tables_on path) }
+        ensures whole { OnSome result (lacks (tables_of self.now).tree page ≡ 0) }
+    {
+        self.tree.path(page)
+    }
+
+    /// The entry in the word of the path's last table, if it has one (of Linux's `gup_fast_pte_range`, `mm/gup.c`). Each table of
+    /// the path stands where it stood, or isn't in the tree any more: one that was taken out has no entries.
+    #[inline]
+    pub fn entry_by(&self, path: &Path, page: PageNo) -> Option<Entry>
+        requires { KeepsPath (tables_of self.now).tree (tables_on path.now) page }
+        ensures { result ≡ entry_at (tables_of self.now).tree (tables_on path.now) page }
+    {
+        unpack(self.word_at(path.last, index(page, 1) as u16))
+    }
+
+    /// Whether the word above still leads to the path's last table (Linux looks again at `pmd_val(pmd) != pmd_val(*pmdp)`, in
+    /// `gup_fast_pte_range`, `mm/gup.c`). Each table of the path stands where it stood, or isn't in the tree any more.
+    #[inline]
+    pub fn leads(&self, path: &Path, page: PageNo) -> bool
+        requires { KeepsPath (tables_of self.now).tree (tables_on path.now) page }
+        ensures { result ≡ leads_still (tables_of self.now).tree (tables_on path.now) page }
+    {
+        self.word_at(path.second, index(page, 2) as u16) == link(path.last)
+    }
+
+    /// A law: a page with an entry lacks no table of its path.
+    pub fn has_path(&self, page: PageNo)
+        ensures { IsSome ((tables_of self.now).tree.entry page) → lacks (tables_of self.now).tree page ≡ 0 }
+    {
+        self.tree.has_path(page);
+    }
+
+    /// A law: the words that are read on a page's path, from the root on, end with that of its entry.
+    pub fn path_is_read(&self, page: PageNo)
+        ensures { IfSome (table_at (tables_of self.now).tree.place (on_path 4 0))
+            (λ root. read_on (word_of (tables_of self.now).tree) 4 root page ≡ pack_of ((tables_of self.now).tree.entry page)) }
+    {
+        self.tree.path_is_read(page);
+    }
+
     /// The tables that were taken out and wait, the longest first.
     #[inline]
     pub fn retired(&self) -> Iter<'_, Table>
         ensures { deque_iter_rest result ≡ (tables_of self.now).limbo.retired }
     {
         self.limbo.items()
+    }
+
+    /// A law: there is room in the tree for all tables that wait.
+    pub fn few_wait(&self)
+        ensures { length (tables_of self.now).limbo.retired ≤ (tables_of self.now).tree.room }
+    {
+        let _limbo = &self.limbo;
     }
 
     /// How many walks run.
@@ -231,7 +288,9 @@ impl PageTables {
             ≡ grows page (lacks (tables_of self.old).tree page) (reclaims (both self.old (pool_of pool.old)))) }
         ensures err { OnErr result (both self.new (pool_of pool.new) ≡ reclaims (both self.old (pool_of pool.old))) }
         ensures complete { OnOk result (lacks (tables_of self.new).tree page ≡ 0) }
+        ensures full { (g : ℕ) → lacks (tables_of self.old).tree g ≡ 0 → lacks (tables_of self.new).tree g ≡ 0 }
         ensures entries { (tables_of self.new).tree.entry ≡ (tables_of self.old).tree.entry }
+        ensures room { (tables_of self.new).tree.room ≡ (tables_of self.old).tree.room }
         ensures own { IsOf (both self.new (pool_of pool.new)) }
     {
         reclaim_all(&mut self.limbo, pool);
@@ -250,6 +309,7 @@ impl PageTables {
         ensures tables { both self.new (pool_of pool.new)
             ≡ reclaims record { tables = shrinks page 3 (tables_of self.old); pool = pool_of pool.old } }
         ensures entries { (tables_of self.new).tree.entry ≡ (tables_of self.old).tree.entry }
+        ensures room { (tables_of self.new).tree.room ≡ (tables_of self.old).tree.room }
         ensures own { IsOf (both self.new (pool_of pool.new)) }
     {
         take_out_all(&mut self.tree, &mut self.limbo, page);

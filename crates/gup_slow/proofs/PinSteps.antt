@@ -21,7 +21,7 @@ shows_frames F s a p page e write long h =
 
 shows_space : (S : SpaceValue) (s : CoreState) (a p page : ℕ) (e : Entry) (write long : Bool) → ShowsSpace p (unlocked S) s → ShowsSpace p (unlocked (record S { has_pinned = true })) (happens (happens s (raise_flag a p)) (pin_page a p page e write long))
 shows_space S s a p page e write long h =
-    record { right = h.right; pages = h.pages; entry = h.entry; sequence = h.sequence; has_pinned = grind (arith, nat_tests); structure = h.structure; table = h.table; walks = h.walks }
+    record { right = h.right; pages = h.pages; entry = h.entry; sequence = h.sequence; has_pinned = grind (arith, nat_tests); structure = h.structure; table = h.table; walks = h.walks; place = h.place; retired = h.retired }
 
 pub pinned : (F F' : FramesValue) (S S' : SpaceValue) (page : ℕ) (want : Want) (entry : Option Entry) (e : Entry) → entry ≡ Some e → S' ≡ record S { has_pinned = true } → F' ≡ with_references e.frame 1024 F → AreEvents (ch F F' S S') (λ a p. pins a p page entry want)
 pinned F F' S S' page want None e is space frames = absurd (cc)

@@ -91,6 +91,8 @@ pub record IsShownAs (space other : SpaceValue) : Type 0 where
   pub structure : space.structure ≡ other.structure
   pub table : space.table ≡ other.table
   pub walks : space.walks ≡ other.walks
+  pub place : space.place ≡ other.place
+  pub retired : space.retired ≡ other.retired
 
 -- The events, each of them of the one process, lead from what was before a call to what is after it, its table lock free
 -- for both; the call left that lock as it was.

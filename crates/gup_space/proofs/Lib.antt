@@ -1,5 +1,5 @@
-pub mod Room
 pub mod Fields
 pub mod After
 pub mod FaultLemmas
 pub mod ShowsLemmas
+pub mod Tabled

@@ -1,3 +1,4 @@
 pub mod Space
 pub mod Shows
 pub mod Counted
+pub mod Found

@@ -1,18 +1,19 @@
--- What frames and a process are to a state of the core machine.
-use Rattle.std.specs.Prelude.{◌≡◌, ℕ, false, List, None}
+-- What frames, a process and the free page tables are to a state of the core machine.
+use Rattle.std.specs.Prelude.{◌≡◌, ℕ, true, List, None}
 use Rattle.gup_frames.specs.Frames.{FramesValue, FrameLists, frames_of}
+use Rattle.gup_tables.specs.Pool.{PoolValue}
 use Rattle.gup_space.specs.Space.{SpaceValue, SpaceParts, space_of}
 use Rattle.gup_spec_events.specs.State.{CoreState}
 use Rattle.gup_spec_events.specs.Event.{CoreEvent, run}
 
--- The state has these frames. The spaces here keep their entries in a flat list, so an entry needs no tables.
+-- The state has these frames, and its entries need page tables.
 pub record ShowsFrames (frames : FramesValue) (s : CoreState) : Type 0 where
   pub movable : s.movable ≡ frames.movable
   pub normal : s.normal ≡ frames.normal
   pub count : (f : ℕ) → s.count f ≡ frames.count f
   pub mark : (f : ℕ) → s.mark f ≡ frames.mark f
   pub word : (f w : ℕ) → s.word f w ≡ frames.word f w
-  pub needs_tables : s.needs_tables ≡ false
+  pub needs_tables : s.needs_tables ≡ true
 
 -- the state has this process as process p
 pub record ShowsSpace (p : ℕ) (space : SpaceValue) (s : CoreState) : Type 0 where
@@ -24,6 +25,12 @@ pub record ShowsSpace (p : ℕ) (space : SpaceValue) (s : CoreState) : Type 0 wh
   pub structure : s.structure p ≡ space.structure
   pub table : s.table p ≡ space.table
   pub walks : s.walks p ≡ space.walks
+  pub place : s.place p ≡ space.place
+  pub retired : s.retired p ≡ space.retired
+
+-- the state has these free page tables
+abbrev pub ShowsPool : PoolValue → CoreState → Type 0
+ShowsPool pool s = s.free_table ≡ pool.free
 
 -- Frames and a process, before a call and after it.
 pub record Change : Type 0 where

@@ -23,7 +23,7 @@ pub record RunState : Type 0 where
 abbrev pub run_start : ScriptValue → RunState
 run_start script =
     record {
-      core = core_start script.frames.movable script.frames.normal script.frames.tables false (starts_born script);
+      core = core_start script.frames.movable script.frames.normal script.frames.tables true (starts_born script);
       places = λ _. first_place;
       pointer = 0;
       turns = 0;

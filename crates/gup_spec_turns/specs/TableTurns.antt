@@ -1,7 +1,6 @@
 -- What a turn does to page tables. Before a page is made ready it gets the tables that it lacks, once its rights allow what is to be
 -- done with it; and after a page has lost its mapping, its empty tables go.
-use Rattle.std.specs.Prelude.{ℕ, ◌+◌, ◌==◌, ◌&&◌, Bool, true, false, not, is_some, List, [], ◌++◌, length, Option, Some, None, zero, suc}
-use Rattle.gup_base.specs.declared.entry.Entry.{Entry}
+use Rattle.std.specs.Prelude.{ℕ, ◌+◌, ◌==◌, ◌&&◌, Bool, true, false, is_some, List, [], ◌++◌, length, Option, Some, None, zero, suc}
 use Rattle.gup_base.specs.declared.entry.Rights.{Rights}
 use Rattle.gup_base.specs.declared.entry.Rights.TheVariants.{RW}
 use Rattle.gup_plain.specs.Event.{page_numbers}
@@ -76,30 +75,21 @@ abbrev pub retires_at : CoreState → (a : ℕ) → Option Spot → List CoreEve
 retires_at s a None = []
 retires_at s a (Some at) = retires s a at.proc at.page
 
--- the pages that had an entry, of n from the first on
-abbrev pub retires_entries : CoreState → (a c : ℕ) → (had : ℕ → Option Entry) → (first n : ℕ) → List CoreEvent
-retires_entries s a c had first zero = []
-retires_entries s a c had first (suc n) =
-    let es = retires_at s a (unless (not (is_some (had first))) (spot c first)) in
-    es ++ retires_entries (run s es) a c had (first + 1) n
-
--- a failed child keeps no table but its root: those of the page at which its fork failed go, and those of pages that had an entry
-abbrev pub releases : CoreState → (a c page : ℕ) → (had : ℕ → Option Entry) → List CoreEvent
-releases s a c page had =
-    retires s a c page ++ retires_entries (run s (retires s a c page)) a c had 0 page_numbers
-
-abbrev pub releases_at : CoreState → (a c : ℕ) → (had : ℕ → Option Entry) → ForkStep → List CoreEvent
-releases_at s a c had (counted page) = releases s a c page had
-releases_at s a c had (copying page word) = releases s a c page had
-releases_at s a c had step = []
+-- the empty tables go that a process has on the path of each mapped page, of n from the first on
+abbrev pub retires_mapped : CoreState → (a c : ℕ) → (right : ℕ → Option Rights) → (first n : ℕ) → List CoreEvent
+retires_mapped s a c right first zero = []
+retires_mapped s a c right first (suc n) =
+    let es = retires_at s a (if_mapped c first (right first)) in
+    es ++ retires_mapped (run s es) a c right (first + 1) n
 
 abbrev pub if_failed : Birth → List CoreEvent → List CoreEvent
 if_failed failed es = es
 if_failed birth es = []
 
-abbrev pub fork_shrinks : CoreState → (a c : ℕ) → (had : ℕ → Option Entry) → Job → List CoreEvent
-fork_shrinks s a c had (forking q d done step) = if_failed (s.birth c) (releases_at s a c had step)
-fork_shrinks s a c had job = []
+-- a failed child has no entry any more, and keeps no table but its root: those go of each page that its parent has mapped
+abbrev pub fork_shrinks : CoreState → (a c : ℕ) → (right : ℕ → Option Rights) → Job → List CoreEvent
+fork_shrinks s a c right (forking q d done step) = if_failed (s.birth c) (retires_mapped s a c right 0 page_numbers)
+fork_shrinks s a c right job = []
 
 abbrev pub lowest_spot : (p : ℕ) → Option ℕ → Option Spot
 lowest_spot p None = None
@@ -109,5 +99,5 @@ lowest_spot p (Some page) = spot p page
 abbrev pub shrinks_by : (before after : CoreState) → (a p far : ℕ) → Op → List CoreEvent
 shrinks_by s t a p far (Unmap page n) = retires_at t a (if_mapped p (page + far) (s.right p (page + far)))
 shrinks_by s t a p far Exit = retires_at t a (lowest_spot p (lowest_page (s.right p)))
-shrinks_by s t a p far (Fork child) = fork_shrinks t a child (s.entry child) (s.job a)
+shrinks_by s t a p far (Fork child) = fork_shrinks t a child (t.right p) (s.job a)
 shrinks_by s t a p far op = []

@@ -3,7 +3,7 @@ use Rattle.std.proofs.Common.{add-zero, ◌≡◌, ℕ, zero, suc, ◌+◌, ◌-
 use Rattle.gup_spec_tables.specs.declared.place.Place.{Place}
 use Rattle.gup_tables.specs.Kept.{IsTree, IsLowest}
 use Rattle.gup_spec_tables.specs.Tables.{table_at, on_path, lacks}
-use Rattle.gup_tables.specs.Tree.{tree_by}
+use Rattle.gup_tables.specs.Tree.{entry_at, tree_by}
 use Rattle.gup_tables.proofs.Paths.{path_above}
 use Rattle.gup_tables.proofs.Places.{at_some, found, no_table}
 
@@ -67,3 +67,9 @@ module _ (place : ℕ → Option Place) (word : ℕ → ℕ → ℕ) (root : Opt
       lacks_below tables room level (omega (arith, low.within.0)) low.within.1
       (rw (found place table (on_path level page) (record { numbered = tree.numbered; apart = tree.apart }) low.there) refl)
       low.last
+
+  -- a page with an entry lacks none
+  pub entered_lacks : (tables room : ℕ) (o : Option ℕ) → table_at place (on_path 1 page) ≡ o → IsSome (entry_at word (table_at place (on_path 1 page)) page) → lacks (tree_by place word tables room) page ≡ 0
+  entered_lacks tables room None is some = absurd (cc (rw is at some))
+  entered_lacks tables room (Some table) is some =
+      lacks_below tables room 1 (omega arith) (omega arith) (rw is refl) (λ less. absurd (omega (arith, less)))

@@ -36,6 +36,11 @@ path_below (suc level) page some few =
     ap (λ k. below (on_path (suc level) page) (page / 512 ^ k % 512)) is ∙ path_under level page (omega (arith, few)) ∙ ap (λ k. on_path k page) (sym is)
 
 module _ (place : ℕ → Option Place) (word : ℕ → ℕ → ℕ) (root : Option ℕ) (tree : IsTree place word root) where
+  -- the root stands on the path of each page
+  pub root_there : (table page : ℕ) → root ≡ Some table → page < 2 ^ 35 → place table ≡ Some (on_path 4 page)
+  root_there table page is within =
+      (at_some place (on_path 4 0) table (sym tree.root_there ∙ is)).1 ∙ ap Some (sym (path_root page within))
+
   -- the word on the page's path leads to the next table on it
   pub path_word : (table level page : ℕ) → place table ≡ Some (on_path level page) → 1 < level → level ≤ 4 → word table (page / 512 ^ (level - 1) % 512) ≡ link_to (table_at place (on_path (level - 1) page))
   path_word table level page there upper few =

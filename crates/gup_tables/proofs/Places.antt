@@ -1,5 +1,5 @@
 -- Which table stands at a place.
-use Rattle.std.proofs.Common.{◌≡◌, ◌≢◌, ℕ, ◌%◌, ◌<◌, ◌==◌, Bool, true, false, Option, Some, None, IsSome, is_some, refl, ap, sym, ◌∙◌, ⊎_elim, arith}
+use Rattle.std.proofs.Common.{◌≡◌, ◌≢◌, ℕ, ◌%◌, ◌<◌, ◌==◌, Bool, true, false, Option, Some, None, IsSome, IfSome, is_some, refl, ap, sym, ◌∙◌, ⊎_elim, arith}
 use Rattle.std.proofs.lemmas.Bool.{cases_eq}
 use Rattle.std.proofs.lemmas.Bool.Decides.{nat_tests}
 use Rattle.gup_plain.specs.Put.{put, put2}
@@ -56,6 +56,10 @@ pub at_some : (place : ℕ → Option Place) (p : Place) (table : ℕ) → table
 at_some place p table is =
     let h = lowest_some 0 table_numbers (λ t. is_at p (place t)) table is in
     (omega (arith, h.1), is_at_is p (place table) h.2)
+
+pub some_there : (place : ℕ → Option Place) (p : Place) (o : Option ℕ) → o ≡ table_at place p → IfSome o (λ table. place table ≡ Some p)
+some_there place p None is = tt
+some_there place p (Some table) is = (at_some place p table (sym is)).1
 
 -- where none is found, none stands
 pub at_none : (place : ℕ → Option Place) (p : Place) → table_at place p ≡ None → (table : ℕ) → table < table_numbers → place table ≡ Some p → ⊥

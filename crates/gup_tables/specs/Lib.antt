@@ -1,4 +1,5 @@
 pub mod Kept
+pub mod Path
 pub mod Pool
 pub mod Rows
 pub mod Tree

@@ -66,6 +66,14 @@ impl Pool {
         self.set.contains(table.get() as usize)
     }
 
+    /// A law: the pool is of at most 8,192 tables, and no others are free.
+    pub fn is_within(&self)
+        ensures few { (pool_of self.now).tables ≤ 8192 }
+        ensures no_others { (table : ℕ) → (pool_of self.now).tables ≤ table → (pool_of self.now).free table ≡ false }
+    {
+        let _set = &self.set;
+    }
+
     /// Takes the lowest free table out (of Linux's `pagetable_alloc`; that it is the lowest is this project's own). `None`
     /// exactly where none is free, and nothing changes then.
     pub fn take(&mut self) -> Option<Table>

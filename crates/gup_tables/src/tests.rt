@@ -174,6 +174,37 @@ fn words_lead_from_the_root_on(rt: HostRuntime) -> Result<(), Fail> {
     Ok(())
 }
 
+// The page's path has these tables of level 3, 2 and 1, or lacks one.
+fn has_path(
+    rt: &impl Abort,
+    tree: &Tree,
+    page: u64,
+    want: Option<(u64, u64, u64)>,
+) -> Result<(), Fail> {
+    let path = tree.path(page_no(page)?);
+    let tables = path.map(|p| (p.third.get(), p.second.get(), p.last.get()));
+    assert_eq!(rt; tables, want, "at {page}");
+    Ok(())
+}
+
+#[test]
+fn paths_are_read(rt: HostRuntime) -> Result<(), Fail> {
+    let tree = grown(&rt, rt.alloc())?;
+    for (page, want) in [
+        (5, Some((1, 2, 3))),
+        (1_023, Some((1, 2, 7))),
+        (1_024, None),
+        (262_144, Some((1, 8, 9))),
+        (134_217_728, Some((10, 11, 12))),
+        (134_218_240, None),
+        (268_435_456, None),
+        (LAST, Some((4, 5, 6))),
+    ] {
+        has_path(&rt, &tree, page, want)?;
+    }
+    Ok(())
+}
+
 // So many tables of the page's path are missing.
 fn lacks(rt: &impl Abort, tree: &Tree, page: u64, want: u8) -> Result<(), Fail> {
     assert_eq!(rt; tree.lacks(page_no(page)?), want, "at {page}");

@@ -1,16 +1,20 @@
 //! The tree of a process's page tables.
-ghost use Rattle.std.specs.Prelude.{◌≡◌, ℕ, Option, ◌+◌, ◌-◌, ◌*◌, ◌/◌, ◌%◌, ◌^◌, ◌<◌, ◌≤◌, is_some, None, Some, IsSome, IfOk, IfNone, IfSome, MatchOption, OnSome};
+ghost use Rattle.std.specs.Prelude.{◌≡◌, ℕ, Option, ◌+◌, ◌-◌, ◌*◌, ◌/◌, ◌^◌, ◌<◌, ◌≤◌, is_some, None, Some, IsSome, IfOk, IfNone, IfSome, MatchOption, OnSome};
 ghost use Rattle.gup_base.specs.declared.entry.Entry.{Entry as EntryValue};
 ghost use Rattle.gup_maps.specs.Table.{IsNextPage, IsLastPage};
 ghost use Rattle.gup_base.specs.Packing.{pack_of};
-ghost use Rattle.gup_spec_tables.specs.Tables.{placed_tables, read_on, no_tree, table_at, on_path, lacks, with_table, with_entry, without_table, detachable, word_of, link_to};
+ghost use Rattle.gup_spec_tables.specs.Tables.{placed_tables, read_on, no_tree, table_at, on_path, lacks, with_table, with_entry, without_table, detachable, word_of};
+ghost use Rattle.gup_spec_tables.specs.Paths.{path_to};
+ghost use Rattle.gup_tables.specs.Path.{tables_on};
 ghost use Rattle.gup_tables.specs.Tree.{tree_of};
 ghost use Rattle.gup_tables.specs.Kept.{IsLowest, IsUntouchedUntil};
 
 use crate::number::TableNo;
+use crate::path::Path;
 use crate::rows::Rows;
 use crate::table::Table;
-use gup_base::{Entry, FrameNo, NoMemory, PageNo, pack, unpack};
+use crate::word::{index, link, linked, span};
+use gup_base::{Entry, NoMemory, PageNo, pack, unpack};
 use gup_spec_tables::Place;
 use std::alloc::Global;
 use std::marker::Model;
@@ -47,30 +51,6 @@ struct Step {
     level: u8,
 }
 
-// The number of the span of 512^level pages that has the page.
-#[inline(always)]
-fn span(page: PageNo, level: u8) -> u64
-    requires { level ≤ 4 }
-    ensures { result ≡ page / 512 ^ level }
-{
-    match level {
-        0 => page.get(),
-        1 => page.get() / 512,
-        2 => page.get() / 262_144,
-        3 => page.get() / 134_217_728,
-        _ => 0,
-    }
-}
-
-// Which word of a table of this level the page's path goes through.
-#[inline(always)]
-fn index(page: PageNo, level: u8) -> usize
-    requires { (0 < level) × (level ≤ 4) }
-    ensures { result ≡ page / 512 ^ (level - 1) % 512 }
-{
-    (span(page, level - 1) % 512) as usize
-}
-
 // The first page behind the span of 512^level pages that has the page.
 fn behind(page: PageNo, level: u8) -> u64
     requires { level < 4 }
@@ -85,28 +65,6 @@ fn behind(page: PageNo, level: u8) -> u64
     }
 }
 
-// The word that leads to the table.
-#[inline]
-fn link(table: TableNo) -> u64
-    ensures { result ≡ link_to (Some table) }
-{
-    pack(Some(Entry {
-        frame: FrameNo::new(table.get()).unwrap(),
-        writable: true,
-    }))
-}
-
-// The table to which the word leads, if it leads to one.
-#[inline]
-fn linked(word: u64) -> Option<TableNo>
-    ensures { (table : Option ℕ) → IfSome table (λ t. t < 8192) → word ≡ link_to table → result ≡ table }
-{
-    let Some(entry) = unpack(word) else {
-        return None;
-    };
-    TableNo::new(entry.frame.get())
-}
-
 impl Tree {
     /// No tables, so no entries. There is the memory for `room` tables, at most 8,192, of which none is touched before a table
     /// needs it: no other call takes any.
@@ -116,6 +74,17 @@ impl Tree {
     {
         let rows = Rows::new(alloc, room)?;
         Ok(Tree { rows, root: None })
+    }
+
+    // The table below this one, of this level, on the page's path, if there is one: a word of this one leads to it.
+    #[inline(always)]
+    fn next(&self, table: TableNo, level: u8, page: PageNo) -> Option<TableNo>
+        requires there { (tree_of self.now).place table ≡ Some (on_path level page) }
+        requires upper { (1 < level) × (level ≤ 4) }
+        ensures next { result ≡ table_at (tree_of self.now).place (on_path (level - 1) page) }
+        ensures there { IfSome result (λ under. (tree_of self.now).place under ≡ Some (on_path (level - 1) page)) }
+    {
+        linked(self.rows.word(table, index(page, level)))
     }
 
     // The lowest table of the page's path whose level isn't below `bottom`.
@@ -129,7 +98,7 @@ impl Tree {
         let mut table = root;
         let mut level = ROOT;
         while level > bottom {
-            let Some(next) = linked(self.rows.word(table, index(page, level))) else {
+            let Some(next) = self.next(table, level, page) else {
                 return Some(Step { table, level });
             };
             table = next;
@@ -151,6 +120,23 @@ impl Tree {
             return None;
         }
         unpack(rows.word(last.table, index(page, 1)))
+    }
+
+    /// The tables of the page's path, read one level after another (of Linux's `gup_fast_pgd_range` .. `gup_fast_pte_range`,
+    /// `mm/gup.c`): `None` exactly where one is missing.
+    #[inline]
+    pub fn path(&self, page: PageNo) -> Option<Path>
+        ensures path { MatchOption result (0 < lacks (tree_of self.now) page) (λ path. path_to (tree_of self.now) page ≡ tables_on path) }
+        ensures whole { OnSome result (lacks (tree_of self.now) page ≡ 0) }
+    {
+        let third = self.next(self.root?, 4, page)?;
+        let second = self.next(third, 3, page)?;
+        let last = self.next(second, 2, page)?;
+        Some(Path {
+            third,
+            second,
+            last,
+        })
     }
 
     /// How many of the four tables of the page's path are missing.
@@ -284,6 +270,13 @@ impl Tree {
     pub fn path_is_read(&self, page: PageNo)
         ensures { IfSome (table_at (tree_of self.now).place (on_path 4 0))
             (λ root. read_on (word_of (tree_of self.now)) 4 root page ≡ pack_of ((tree_of self.now).entry page)) }
+    {
+        let _rows = &self.rows;
+    }
+
+    /// A law: a page with an entry lacks no table of its path.
+    pub fn has_path(&self, page: PageNo)
+        ensures { IsSome ((tree_of self.now).entry page) → lacks (tree_of self.now) page ≡ 0 }
     {
         let _rows = &self.rows;
     }

@@ -1,6 +1,6 @@
 //! The scripts of examples/, with their statuses and their texts. Written by examples/tests.
 
-pub const EXAMPLES: [(&str, u8, &str); 36] = [
+pub const EXAMPLES: [(&str, u8, &str); 37] = [
     // child-keeps-a-pin.gup
     (
         "# A child pins a page that it shares with its parent, unmaps it, and waits for what the parent writes there next. The pin gave\n# the child a page of its own, so the secret never comes to it. A kernel that gave it a reference of the shared page let the\n# parent write in place as soon as the child had unmapped: it looked at the mappings and not at the reference.\n# Linux: mm/gup.c, follow_page_pte asks gup_must_unshare (mm/internal.h); mm/memory.c, wp_can_reuse_anon_folio counts references.\n# never: d 2 ok 42\n# never: t 5 ok 7\ngup 1\nframes 8 8 64\nprocess p\nchild c\nthread t p\nthread u c\ndevice d 8\non t map 5 1 rw\non t store 5.0 7\non t fork c\non t store 5.0 42\non t load 5.0\non u pin h 5 1 read\non u give h d\non u unmap 5 1\non d take h\non d out h 0 0 1\nturns t*6 u*3 t\n",
@@ -36,6 +36,12 @@ pub const EXAMPLES: [(&str, u8, &str); 36] = [
         "# A buffer is registered for long by the fast way, as RDMA libraries do it. Its page lies in movable memory, so the walk stops at its\n# entry, and the slow way moves the page to normal memory and pins it there. The second registration finds the page where it may\n# stay, and its walk takes it without any lock. Each word is where it was, and the device sees what the program stores.\n# Linux: mm/gup.c, pin_user_pages_fast with FOLL_LONGTERM; try_grab_folio_fast refuses what folio_is_longterm_pinnable does, and\n# __gup_longterm_locked migrates it.\n# never: d 2 ok 7\n# never: t 3 noframe\n# never: t 5 noframe\ngup 1\nframes 1 1 64\nprocess p\nthread t p\ndevice d 8\non t map 5 1 rw\non t store 5.0 7\non t pinfast h 5 1 write long\non t store 5.0 8\non t pinfast k 5 1 read long\non t give h d\non t load 5.0\non d take h\non d out h 0 0 1\nturns t*19 d*2\n",
         0,
         "t 1 ok\nt 2 ok\nt 3 ok 1\nt 4 ok\nt 5 ok 1\nt 6 ok\nt 7 ok 8\nd 1 ok\nd 2 ok 8\n",
+    ),
+    // fast-pin-keeps-page-tables.gup
+    (
+        "# A lockless walk has read its way down to the entry of page 5 when that page is unmapped. Its frame is free then, and so would its tables\n# be, which are empty and leave the tree; but the walk may still be inside of one, so all three are kept back until it is over. Page\n# 517 needs three tables, and the script has no others: the store finds none while the walk runs, and succeeds behind it. Had it the\n# tables and the frame of page 5 at once, its entry would be where the walk looks again, and the same: a pin of another page.\n# Linux: mm/gup.c, gup_fast_fallback walks with interrupts off; mm/mmu_gather.c, tlb_remove_table frees a table behind a grace period of\n# RCU, or after an interrupt on each processor (tlb_remove_table_sync_one), so not before such a walk is over.\n# never: d 2 ok 9\n# never, with these turns: t 5 ok\n# never, with these turns: v 1 ok 1\ngup 1\nframes 1 0 4\nprocess p\nthread t p\nthread v p\ndevice d 8\non t map 5 1 rw\non t store 5.0 7\non t unmap 5 1\non t map 517 1 rw\non t store 517.0 9\non t store 517.0 9\non v pinfast f 5 1 write\non v give f d\non d take f\non d out f 0 0 1\nturns t*2 v*3 t*3 v*3 t v\n",
+        4,
+        "t 1 ok\nt 2 ok\nt 3 ok\nt 4 ok\nt 5 noframe\nv 1 missing\nt 6 ok\nv 2 notheld\nstuck d handle f\n",
     ),
     // fast-pin-races-fork.gup
     (

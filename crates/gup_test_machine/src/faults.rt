@@ -1,8 +1,9 @@
-ghost use Rattle.std.specs.Prelude.{◌≡◌, Some};
+ghost use Rattle.std.specs.Prelude.{◌≡◌, OnErr};
 ghost use Rattle.gup_frames.specs.Frames.{frames_of, IsFrame};
-ghost use Rattle.gup_space.specs.Space.{space_of, HasRoom};
+ghost use Rattle.gup_space.specs.Space.{space_of};
 ghost use Rattle.gup_space.specs.Counted.{IsCounted};
 
+use crate::tables::{grown, map_page, start, with_tables};
 use gup_base::{Allowed, Entry, FrameNo, PageNo, Rights, WordNo, Zone};
 use gup_fault::{
     Denied, NoFrame, break_copy, fill, mark, ready_read, ready_write, unshare, upgrade,
@@ -30,10 +31,8 @@ fn expect_frame(rt: &impl Abort, frames: &Frames, frame: FrameNo)
 
 // What each call needs of the page.
 fn expect_counted(rt: &impl Abort, space: &Space, frames: &Frames, page: PageNo)
-    ensures counted { IsCounted (frames_of frames.now) (space_of space.now) page }
-    ensures room { HasRoom (space_of space.now) page }
+    ensures { IsCounted (frames_of frames.now) (space_of space.now) page }
 {
-    assert!(rt; space.entries() < 1_024);
     let Some(entry) = space.entry(page) else {
         return;
     };
@@ -47,7 +46,9 @@ fn ready(
     frames: &mut Frames,
     page: PageNo,
     call: Call,
-) -> Result<(), Denied> {
+) -> Result<(), Denied>
+    ensures { OnErr result (space_of space.new ≡ space_of space.old) }
+{
     expect_counted(rt, space, frames, page);
     match call {
         Call::Read => ready_read(space, frames, page, Allowed::Any),
@@ -58,7 +59,7 @@ fn ready(
 
 // A process with these pages mapped.
 fn space_with(alloc: Global, rt: &impl Abort, pages: &[(u64, Rights)]) -> Result<Space, Fail> {
-    let mut space = Space::new(alloc).or(Err("memory"))?;
+    let mut space = with_tables(rt, alloc)?;
     for (number, rights) in pages {
         let page = PageNo::new(*number).ok_or("a page")?;
         assert!(rt; page.get() < 34_359_738_368);
@@ -130,6 +131,51 @@ fn pages_are_made_ready_or_refused(rt: HostRuntime) -> Result<(), Fail> {
     Ok(())
 }
 
+// The page lacks page tables, so the call is refused, and changes nothing.
+fn refused(rt: &impl Abort, space: &mut Space, frames: &mut Frames, page: PageNo, call: Call)
+    ensures { space_of space.new ≡ space_of space.old }
+{
+    assert!(rt; space.lacks(page) > 0);
+    let answer = ready(rt, space, frames, page, call);
+    assert_eq!(rt; answer, Err(Denied::NoFrame), "{call:?}");
+    assert!(rt; answer.is_err());
+}
+
+// A page of a new process gets its entry by this call once it has its page tables, and not before.
+fn ready_once_grown(
+    rt: &impl Abort,
+    alloc: Global,
+    call: Call,
+    writable: bool,
+) -> Result<(), Fail> {
+    let mut frames = Frames::new(alloc, 1, 0).or(Err("memory"))?;
+    let (mut space, mut pool) = start(alloc)?;
+    let page = PageNo::new(3).ok_or("a page")?;
+    map_page(rt, &mut space, page, Rights::RW);
+    refused(rt, &mut space, &mut frames, page, call);
+    assert_eq!(rt; (space.entry(page), frames.free(Zone::Movable)), (None, 1));
+    grown(rt, &mut space, &mut pool, page);
+    let answer = ready(rt, &mut space, &mut frames, page, call);
+    assert_eq!(rt;
+        (answer, seen(rt, &space, &frames, page)),
+        (Ok(()), Some((0, writable, true, 1))),
+        "{call:?}"
+    );
+    Ok(())
+}
+
+#[test]
+fn pages_without_tables_are_refused(rt: HostRuntime) -> Result<(), Fail> {
+    for (call, writable) in [
+        (Call::Read, false),
+        (Call::Unshare, false),
+        (Call::Write, true),
+    ] {
+        ready_once_grown(&rt, rt.alloc(), call, writable)?;
+    }
+    Ok(())
+}
+
 // The other page gets the page's frame as well, as a fork shares it.
 fn share(
     rt: &impl Abort,
@@ -151,7 +197,7 @@ fn share(
             frame,
             writable: false,
         };
-        assert!(rt; space.rights_at(at).is_some() && space.entries() < 1_024);
+        assert!(rt; space.rights_at(at).is_some() && space.lacks(at) == 0);
         space.set_entry(at, Some(shared));
     }
     Ok(())

@@ -1,10 +1,11 @@
 ghost use Rattle.std.specs.Prelude.{◌≡◌, ℕ, ◌<◌, ◌^◌, Some, None, IsSome};
 ghost use Rattle.gup_base.specs.declared.entry.Entry.{Entry as EntryValue};
 ghost use Rattle.gup_frames.specs.Frames.{frames_of, IsFrame};
-ghost use Rattle.gup_space.specs.Space.{space_of, HasRoom};
+ghost use Rattle.gup_space.specs.Space.{space_of, lacking};
 ghost use Rattle.gup_space.specs.Counted.{IsCounted};
 ghost use Rattle.gup_fork.specs.Forks.{with_maps_of};
 
+use crate::tables::with_tables;
 use gup_base::{Allowed, Entry, FrameNo, PageNo, Rights, WordNo, Zone};
 use gup_fork::{begin, copies, copy_word, end, fail, place_child, share};
 use gup_frames::Frames;
@@ -37,14 +38,14 @@ fn expect_entry(rt: &impl Abort, parent: &Space, frames: &Frames, page: PageNo)
     assert!(rt; mapped && count > 0 && count < 1_099_511_627_776);
 }
 
-// The page is mapped, has no entry, and finds room for one.
+// The page is mapped, has no entry, and lacks no page table.
 fn expect_room(rt: &impl Abort, child: &Space, page: PageNo)
     ensures mapped { IsSome ((space_of child.now).right page) }
     ensures absent { (space_of child.now).entry page ≡ None }
-    ensures room { HasRoom (space_of child.now) page }
+    ensures path { lacking (space_of child.now) page ≡ 0 }
 {
     let mapped = child.rights_at(page).is_some();
-    assert!(rt; mapped && child.entry(page).is_none() && child.entries() < 1_024);
+    assert!(rt; mapped && child.entry(page).is_none() && child.lacks(page) == 0);
 }
 
 // Maps page 3, and gives it frame 0, which is marked and whose word 0 is 7.
@@ -57,7 +58,7 @@ fn give(rt: &impl Abort, space: &mut Space, frames: &mut Frames) -> Option<()> {
     frames.set_mark(frame, true);
     expect_frame(rt, frames, frame);
     frames.set_word(frame, WordNo::new(0)?, 7);
-    assert!(rt; space.rights_at(page).is_some() && space.entries() < 1_024);
+    assert!(rt; space.rights_at(page).is_some() && space.lacks(page) == 0);
     let writable = true;
     space.set_entry(page, Some(Entry { frame, writable }));
     Some(())
@@ -66,7 +67,7 @@ fn give(rt: &impl Abort, space: &mut Space, frames: &mut Frames) -> Option<()> {
 // A process with page 3, which has frame 0 of two.
 fn one_page(rt: &impl Abort, alloc: Global) -> Result<(Space, Frames), Fail> {
     let mut frames = Frames::new(alloc, 1, 1).or(Err("memory"))?;
-    let mut space = Space::new(alloc).or(Err("memory"))?;
+    let mut space = with_tables(rt, alloc)?;
     let given = give(rt, &mut space, &mut frames);
     assert!(rt; given.is_some());
     Ok((space, frames))
@@ -83,7 +84,7 @@ fn begin_here(rt: &impl Abort, parent: &mut Space, child: &mut Space)
 #[test]
 fn a_child_has_its_parents_mappings(rt: HostRuntime) -> Result<(), Fail> {
     let (mut parent, _frames) = one_page(&rt, rt.alloc())?;
-    let mut child = Space::new(rt.alloc()).or(Err("memory"))?;
+    let mut child = with_tables(&rt, rt.alloc())?;
     let page = PageNo::new(3).ok_or("a page")?;
     begin_here(&rt, &mut parent, &mut child);
     let sequences = (parent.sequence(), child.sequence());
@@ -99,7 +100,7 @@ fn a_child_has_its_parents_mappings(rt: HostRuntime) -> Result<(), Fail> {
 #[test]
 fn the_end_makes_the_sequence_even(rt: HostRuntime) -> Result<(), Fail> {
     let (mut parent, _frames) = one_page(&rt, rt.alloc())?;
-    let mut child = Space::new(rt.alloc()).or(Err("memory"))?;
+    let mut child = with_tables(&rt, rt.alloc())?;
     begin_here(&rt, &mut parent, &mut child);
     assert!(rt; parent.sequence() < 1_099_511_627_776);
     end(&mut parent);
@@ -191,7 +192,7 @@ fn entry_seen(space: &Space, page: PageNo) -> Option<(u64, bool)> {
 #[test]
 fn shared_pages_are_read_only_in_both(rt: HostRuntime) -> Result<(), Fail> {
     let (mut parent, mut frames) = one_page(&rt, rt.alloc())?;
-    let mut child = Space::new(rt.alloc()).or(Err("memory"))?;
+    let mut child = with_tables(&rt, rt.alloc())?;
     let page = PageNo::new(3).ok_or("a page")?;
     begin_here(&rt, &mut parent, &mut child);
     assert_eq!(rt; seen(&rt, &frames, 0), Some((1, true, 7, 0, 1)));
@@ -251,7 +252,7 @@ fn copy_here(
 #[test]
 fn a_copied_page_is_the_childs_own(rt: HostRuntime) -> Result<(), Fail> {
     let (mut parent, mut frames) = one_page(&rt, rt.alloc())?;
-    let mut child = Space::new(rt.alloc()).or(Err("memory"))?;
+    let mut child = with_tables(&rt, rt.alloc())?;
     let page = PageNo::new(3).ok_or("a page")?;
     begin_here(&rt, &mut parent, &mut child);
     let copied = copy_here(&rt, &parent, &mut child, &mut frames, page);
@@ -282,6 +283,17 @@ fn fail_here(
     fail(parent, child, frames);
 }
 
+// How many of the first eight pages have an entry.
+fn entries(space: &Space) -> Option<u16> {
+    let mut many = 0_u16;
+    for number in 0..8 {
+        if space.entry(PageNo::new(number)?).is_some() {
+            many = many.checked_add(1)?;
+        }
+    }
+    Some(many)
+}
+
 // The fork into a new child fails after the share of the page; how many pages and entries the child then has.
 fn fail_child(
     rt: &impl Abort,
@@ -289,23 +301,22 @@ fn fail_child(
     parent: &mut Space,
     frames: &mut Frames,
     page: PageNo,
-) -> Option<(u16, u16)> {
-    let Ok(mut child) = Space::new(alloc) else {
-        return None;
-    };
+) -> Result<(u16, u16), Fail> {
+    let mut child = with_tables(rt, alloc)?;
     begin_here(rt, parent, &mut child);
     fail_here(rt, parent, &mut child, frames, page);
-    Some((child.len(), child.entries()))
+    let entries = entries(&child).ok_or("pages")?;
+    Ok((child.len(), entries))
 }
 
 #[test]
 fn a_failed_fork_gives_its_references_back(rt: HostRuntime) -> Result<(), Fail> {
     let (mut parent, mut frames) = one_page(&rt, rt.alloc())?;
     let page = PageNo::new(3).ok_or("a page")?;
-    let left = fail_child(&rt, rt.alloc(), &mut parent, &mut frames, page);
+    let left = fail_child(&rt, rt.alloc(), &mut parent, &mut frames, page)?;
     assert_eq!(rt;
         (left, seen(&rt, &frames, 0)),
-        (Some((0, 0)), Some((1, false, 7, 0, 1)))
+        ((0, 0), Some((1, false, 7, 0, 1)))
     );
     Ok(())
 }

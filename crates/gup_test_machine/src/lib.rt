@@ -1,4 +1,4 @@
-//! Tests of faults, forks, unmaps and slow pins, and of the machine that takes turns.
+//! Tests of faults, forks, unmaps, slow pins and the page tables of a process, and of the machine that takes turns.
 #![tactic(auto)]
 
 #[cfg(test)]
@@ -9,5 +9,7 @@ mod forks;
 mod machine;
 #[cfg(test)]
 mod slow_pins;
+#[cfg(test)]
+mod tables;
 #[cfg(test)]
 mod unmaps;

@@ -2,6 +2,7 @@ ghost use Rattle.gup_frames.specs.Frames.{frames_of, IsFrame};
 ghost use Rattle.gup_space.specs.Space.{space_of};
 ghost use Rattle.gup_slow.specs.Pins.{IsReady};
 
+use crate::tables::with_tables;
 use gup_base::{Allowed, Entry, FrameNo, PageNo, Rights, Want, Zone};
 use gup_frames::Frames;
 use gup_slow::pin_page;
@@ -41,14 +42,14 @@ fn one_page(
     allowed: Allowed,
     writable: bool,
 ) -> Result<(Space, PageNo), Fail> {
-    let mut space = Space::new(alloc).or(Err("memory"))?;
+    let mut space = with_tables(rt, alloc)?;
     let page = PageNo::new(3).ok_or("a page")?;
     assert!(rt; page.get() < 34_359_738_368);
     space.map(page, 1, Rights::RW).or(Err("a mapping"))?;
     let frame = frames.take(allowed).ok_or("a frame")?;
     expect_frame(rt, frames, frame);
     frames.set_mark(frame, true);
-    assert!(rt; space.rights_at(page).is_some() && space.entries() < 1_024);
+    assert!(rt; space.rights_at(page).is_some() && space.lacks(page) == 0);
     space.set_entry(page, Some(Entry { frame, writable }));
     Ok((space, page))
 }

@@ -2,6 +2,7 @@ ghost use Rattle.gup_frames.specs.Frames.{frames_of, IsFrame};
 ghost use Rattle.gup_space.specs.Space.{space_of};
 ghost use Rattle.gup_space.specs.Counted.{IsCounted};
 
+use crate::tables::with_tables;
 use gup_base::{Allowed, Entry, FrameNo, PageNo, Rights};
 use gup_frames::Frames;
 use gup_space::Space;
@@ -39,14 +40,14 @@ fn give(rt: &impl Abort, space: &mut Space, frames: &mut Frames, page: PageNo) -
         return false;
     };
     let writable = true;
-    assert!(rt; space.rights_at(page).is_some() && space.entries() < 1_024);
+    assert!(rt; space.rights_at(page).is_some() && space.lacks(page) == 0);
     space.set_entry(page, Some(Entry { frame, writable }));
     true
 }
 
 // A process with pages 3, 4 and 5, of which the first two have the two frames.
 fn three_pages(rt: &impl Abort, alloc: Global, frames: &mut Frames) -> Result<Space, Fail> {
-    let mut space = Space::new(alloc).or(Err("memory"))?;
+    let mut space = with_tables(rt, alloc)?;
     for (number, given) in [(3, true), (4, true), (5, false)] {
         let page = PageNo::new(number).ok_or("a page")?;
         assert_eq!(rt; give(rt, &mut space, frames, page), given, "page {number}");

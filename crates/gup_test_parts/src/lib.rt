@@ -17,4 +17,6 @@ mod spaces;
 #[cfg(test)]
 mod stores;
 #[cfg(test)]
+mod tables;
+#[cfg(test)]
 mod walks;

@@ -1,8 +1,8 @@
+use crate::tables::with_tables;
 use gup_base::{Allowed, MirrorNo, PageNo, ProcNo, Rights};
 use gup_fault::fill;
 use gup_frames::Frames;
 use gup_notify::Mirrors;
-use gup_space::Space;
 use std::alloc::Global;
 use std::process::Abort;
 use std::test::Fail;
@@ -12,12 +12,11 @@ const PAGE: u64 = 5;
 // Slots of which the last is filled with the page of process 1.
 fn mirrored(rt: &impl Abort, alloc: Global) -> Result<Mirrors, Fail> {
     let page = PageNo::new(PAGE).ok_or("a page")?;
-    let mut space = Space::new(alloc).or(Err("memory"))?;
+    let mut space = with_tables(rt, alloc)?;
     assert!(rt; page.get() + 1 <= 34_359_738_368);
     space.map(page, 1, Rights::RW).or(Err("mapped"))?;
     let mut frames = Frames::new(alloc, 1, 0).or(Err("memory"))?;
     assert!(rt; space.rights_at(page).is_some() && space.entry(page).is_none());
-    assert!(rt; space.entries() < 1_024);
     fill(&mut space, &mut frames, page, Allowed::Any).or(Err("a frame"))?;
     let mut mirrors = Mirrors::new(alloc).or(Err("memory"))?;
     assert!(rt; !mirrors.is_any_filled());

@@ -1,4 +1,5 @@
 use crate::frames::has;
+use crate::tables::with_tables;
 use gup_base::{Allowed, Entry, FrameNo, PageNo, Rights, WordNo, Zone};
 use gup_fault::NoFrame;
 use gup_frames::Frames;
@@ -43,7 +44,7 @@ enum End {
 // The page and frame that stand so.
 fn standing(rt: &impl Abort, alloc: Global, before: Before) -> Result<Moved, Fail> {
     let page = PageNo::new(PAGE).ok_or("a page")?;
-    let mut space = Space::new(alloc).or(Err("memory"))?;
+    let mut space = with_tables(rt, alloc)?;
     assert!(rt; page.get() + 1 <= 34_359_738_368);
     space.map(page, 1, Rights::RW).or(Err("mapped"))?;
     assert!(rt; before.zones.0 <= 1_024 && before.zones.1 <= 1_024 - before.zones.0);
@@ -64,7 +65,7 @@ fn standing(rt: &impl Abort, alloc: Global, before: Before) -> Result<Moved, Fai
         assert!(rt; has(&frames, frame));
         frames.set_word(frame, at, word + 1);
     }
-    assert!(rt; space.rights_at(page).is_some() && space.entries() < 1_024);
+    assert!(rt; space.rights_at(page).is_some() && space.lacks(page) == 0);
     let writable = before.writable;
     space.set_entry(page, Some(Entry { frame, writable }));
     Ok(Moved {
@@ -82,7 +83,7 @@ impl Moved {
         assert!(rt; self.space.entry(self.page).is_none());
         assert!(rt; has(&self.frames, was.frame));
         let counted = count(&self.frames, was);
-        assert!(rt; self.space.rights_at(self.page).is_some() && self.space.entries() < 1_024);
+        assert!(rt; self.space.rights_at(self.page).is_some() && self.space.lacks(self.page) == 0);
         match after_count(counted) {
             LongStep::Restore(count) => {
                 restore(&mut self.space, self.page, was);

@@ -1,3 +1,4 @@
+use crate::tables::with_tables;
 use gup_base::{Entry, FrameNo, PageNo, Rights};
 use gup_maps::MapRefusal;
 use gup_space::Space;
@@ -35,8 +36,19 @@ fn pages_are_mapped_or_refused(rt: HostRuntime) -> Result<(), Fail> {
     Ok(())
 }
 
+// How many of the first eight pages have an entry.
+fn entries(space: &Space) -> Option<u16> {
+    let mut many = 0_u16;
+    for number in 0..8 {
+        if space.entry(PageNo::new(number)?).is_some() {
+            many = many.checked_add(1)?;
+        }
+    }
+    Some(many)
+}
+
 // Gives the page an entry that is writable or not, or none, and answers whether the one that it has then is, and how
-// many pages have one.
+// many of the first eight pages have one.
 fn set(
     rt: &impl Abort,
     space: &mut Space,
@@ -46,22 +58,20 @@ fn set(
     let page = PageNo::new(number)?;
     let frame = FrameNo::new(1_023)?;
     if let Some(writable) = writable {
-        assert!(rt; space.rights_at(page).is_some());
-        assert!(rt; space.entries() < 1_024);
-        space.has_room(page);
+        assert!(rt; space.rights_at(page).is_some() && space.lacks(page) == 0);
         space.set_entry(page, Some(Entry { frame, writable }));
     } else {
         space.set_entry(page, None);
     }
     Some((
         space.entry(page).map(|entry| entry.writable),
-        space.entries(),
+        entries(space)?,
     ))
 }
 
 #[test]
 fn entries_are_set_and_taken_away(rt: HostRuntime) -> Result<(), Fail> {
-    let mut space = Space::new(rt.alloc()).or(Err("memory"))?;
+    let mut space = with_tables(&rt, rt.alloc())?;
     assert_eq!(rt; map(&rt, &mut space, 3, 2), Some((Ok(()), 2)));
     for (number, writable, many) in [
         (3, Some(false), 1),

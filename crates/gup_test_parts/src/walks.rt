@@ -3,6 +3,7 @@ ghost use Rattle.gup_frames.specs.Frames.{frames_of, IsFrame};
 ghost use Rattle.gup_space.specs.Space.{space_of};
 
 use crate::frames::has;
+use crate::tables::with_tables;
 use arrayvec::ArrayVec;
 use gup_base::{Allowed, Entry, FrameNo, PageNo, Rights, Want};
 use gup_fast::{GiveUp, Step, Walk};
@@ -67,7 +68,7 @@ struct Pages {
 fn standing(rt: &impl Abort, alloc: Global, case: Case) -> Result<Pages, Fail> {
     let first = PageNo::new(FIRST).ok_or("a page")?;
     let second = PageNo::new(SECOND).ok_or("a page")?;
-    let mut space = Space::new(alloc).or(Err("memory"))?;
+    let mut space = with_tables(rt, alloc)?;
     assert!(rt; first.get() + 2 <= 34_359_738_368);
     space.map(first, 2, Rights::RW).or(Err("mapped"))?;
     assert!(rt; case.movable <= 2);
@@ -76,7 +77,7 @@ fn standing(rt: &impl Abort, alloc: Global, case: Case) -> Result<Pages, Fail> {
         let frame = frames.take(Allowed::Any).ok_or("a frame")?;
         assert!(rt; has(&frames, frame));
         frames.set_mark(frame, mark);
-        assert!(rt; space.rights_at(page).is_some() && space.entries() < 1_024);
+        assert!(rt; space.rights_at(page).is_some() && space.lacks(page) == 0);
         space.set_entry(page, Some(Entry { frame, writable }));
     }
     Ok(Pages {

@@ -15,10 +15,10 @@ use Rattle.gup_top.specs.LiveRun.{IsLiveTold}
 use Rattle.gup_top.specs.declared.command.Format.{Format}
 use Rattle.gup_top.specs.declared.serial.Report.{Report}
 use Rattle.gup_top.proofs.Commands.{live_not_run, live_not_checked, live_not_made, lives_in, one_live_format}
-use Rattle.gup_top.proofs.Reports.{of_any, if_none, if_this, if_any}
+use Rattle.gup_top.proofs.Reports.{of_any, if_none, if_this, if_any, no_machine}
 use Rattle.gup_top.proofs.Told.{of_text, are_bytes, none_told}
 
-module _ (words : List (List ℕ)) (before after : Outside) (report : Report) where
+module _ (words : List (List ℕ)) (before after : Outside) (report : Report) (unmade : report.machine ≡ None) where
   -- what is said of a text that was written, in part or whole
   abbrev IsFaultTold : Type 0
   IsFaultTold = report.status ≡ 6 → EndsInFault before.write_faults after.write_faults after.write_faulted
@@ -39,6 +39,7 @@ module _ (words : List (List ℕ)) (before after : Outside) (report : Report) wh
         live = λ other. absurd (other asked);
         faults = faults;
         refusal = refusal;
+        machine = no_machine words report unmade (λ ran. live_not_run words asked ran.0);
       }
 
   -- no script has run

@@ -7,12 +7,13 @@ use Rattle.gup_plain.specs.Note.{NoteValue}
 use Rattle.gup_plain.specs.declared.note.Waiting.{Waiting}
 use Rattle.gup_script.specs.declared.op.Op.{Op}
 use Rattle.gup_script.specs.Script.{ScriptValue}
+use Rattle.gup_core.specs.Machine.{MachineValue}
 use Rattle.gup_spec_journal.specs.Place.{has_finished, ops_of, doer_of}
 use Rattle.gup_spec_turns.specs.Cause.{HaveFinished, WaitsForBirthOrPin}
 use Rattle.gup_spec_turns.specs.Run.{RunState, op_in, waiting_with, waiting_in, is_ready, can_go, IsCoreRun}
 use Rattle.gup_lines.specs.Text.{NamesWaiting, text_of}
 use Rattle.gup_front.specs.Lines.{stuck_of}
-use Rattle.gup_top.specs.Report.{HasRun, IsRunOf, IsToldRun, IsEnd, text_in}
+use Rattle.gup_top.specs.Report.{HasRun, IsRunOf, HasMachine, IsToldRun, IsEnd, text_in}
 use Rattle.gup_spec_trace.specs.Trace.{trace_text}
 use Rattle.gup_top.specs.declared.command.Format.{Format}
 use Rattle.gup_top.specs.declared.command.Format.TheVariants.{Answers, Trace}
@@ -64,39 +65,44 @@ pub finished_text : (script : ScriptValue) (notes : List NoteValue) (end : RunSt
 finished_text script notes end finished =
     ap (λ (l : List ℕ). text_of script notes ++ l) (none_stuck script end (length script.actors) (omega arith) finished) ∙ append-nil (text_of script notes)
 
--- what is so of a script that has run is so whether actors are stuck or not
-abbrev pub IsWrittenRun : Format → (bytes : List ℕ) → ScriptValue → List NoteValue → (stuck : Bool) → (List ℕ → Type 0) → Type 0
-IsWrittenRun format bytes script notes stuck IsWritten = (text : List ℕ) × IsToldRun format bytes script stuck notes text × IsWritten text
+-- what was written of a script that has run, whatever the sink says of that
+module _ (format : Format) (bytes : List ℕ) (script : ScriptValue) (notes : List NoteValue) (machine : Option MachineValue) (IsWritten : List ℕ → Type 0) where
+  -- what is so of it is so whether actors are stuck or not
+  abbrev pub IsWrittenRun : (stuck : Bool) → Type 0
+  IsWrittenRun stuck = (text : List ℕ) × IsToldRun format bytes script stuck notes machine text × IsWritten text
 
-pub has_run : (format : Format) (bytes : List ℕ) (script : ScriptValue) (notes : List NoteValue) (status : ℕ) (IsWritten : List ℕ → Type 0) → (status ≡ 0 → IsWrittenRun format bytes script notes false IsWritten) → (status ≡ 4 → IsWrittenRun format bytes script notes true IsWritten) → HasRun status → (end : RunState) × IsRunOf script (status == 4) notes end
-has_run format bytes script notes status IsWritten finished stuck (inl zero_is) =
-    let told = finished zero_is in (told.1.0, subst (λ (s : ℕ). IsRunOf script (s == 4) notes told.1.0) (sym zero_is) told.1.1)
-has_run format bytes script notes status IsWritten finished stuck (inr four_is) =
-    let told = stuck four_is in (told.1.0, subst (λ (s : ℕ). IsRunOf script (s == 4) notes told.1.0) (sym four_is) told.1.1)
+  text_is : (f : Format) (stuck : Bool) → format ≡ f → (told : IsWrittenRun stuck) → told.0 ≡ text_in f bytes script notes told.1.0
+  text_is f stuck is told = told.1.3 ∙ ap (λ (g : Format). text_in g bytes script notes told.1.0) is
 
-pub finished_written : (format : Format) (bytes : List ℕ) (script : ScriptValue) (notes : List NoteValue) (IsWritten : List ℕ → Type 0) → format ≡ Answers → IsWrittenRun format bytes script notes false IsWritten → IsWritten (text_of script notes)
-finished_written format bytes script notes IsWritten is told = subst IsWritten (told.1.2 ∙ ap (λ (f : Format). text_in f bytes script notes told.1.0) is ∙ finished_text script notes told.1.0 told.1.1.ends) told.2
+  pub finished_written : format ≡ Answers → IsWrittenRun false → IsWritten (text_of script notes)
+  finished_written is told = subst IsWritten (text_is Answers false is told ∙ finished_text script notes told.1.0 told.1.1.ends) told.2
 
-pub stuck_written : (format : Format) (bytes : List ℕ) (script : ScriptValue) (notes : List NoteValue) (IsWritten : List ℕ → Type 0) → format ≡ Answers → IsWrittenRun format bytes script notes true IsWritten → (end : RunState) × IsCoreRun script notes end × IsWritten (run_text script notes end)
-stuck_written format bytes script notes IsWritten is told = (told.1.0, told.1.1.core, subst IsWritten (told.1.2 ∙ ap (λ (f : Format). text_in f bytes script notes told.1.0) is) told.2)
+  pub stuck_written : format ≡ Answers → IsWrittenRun true → (end : RunState) × IsCoreRun script notes end × IsWritten (run_text script notes end)
+  stuck_written is told = (told.1.0, told.1.1.core, subst IsWritten (text_is Answers true is told) told.2)
 
-finished_run : (format : Format) (bytes : List ℕ) (script : ScriptValue) (notes : List NoteValue) (IsWritten : List ℕ → Type 0) → IsWrittenRun format bytes script notes false IsWritten → IsFinishedRun script notes
-finished_run format bytes script notes IsWritten told = (told.1.0, told.1.1.core, told.1.1.ends)
+  -- the trace of a run that was written
+  traced : (stuck : Bool) → format ≡ Trace → IsWrittenRun stuck → IsWritten (trace_text bytes script notes)
+  traced stuck is told = subst IsWritten (text_is Trace stuck is told) told.2
 
-stuck_run : (format : Format) (bytes : List ℕ) (script : ScriptValue) (notes : List NoteValue) (IsWritten : List ℕ → Type 0) → IsWrittenRun format bytes script notes true IsWritten → IsStuckRun script notes
-stuck_run format bytes script notes IsWritten told = (told.1.0, told.1.1.core, told.1.1.ends, told.1.1.waits)
+  finished_run : IsWrittenRun false → IsFinishedRun script notes
+  finished_run told = (told.1.0, told.1.1.core, told.1.1.ends)
 
--- the trace of a run that was written
-traced : (format : Format) (bytes : List ℕ) (script : ScriptValue) (notes : List NoteValue) (stuck : Bool) (IsWritten : List ℕ → Type 0) → format ≡ Trace → IsWrittenRun format bytes script notes stuck IsWritten → IsWritten (trace_text bytes script notes)
-traced format bytes script notes stuck IsWritten is told = subst IsWritten (told.1.2 ∙ ap (λ (f : Format). text_in f bytes script notes told.1.0) is) told.2
+  stuck_run : IsWrittenRun true → IsStuckRun script notes
+  stuck_run told = (told.1.0, told.1.1.core, told.1.1.ends, told.1.1.waits)
 
-pub traced_written : (format : Format) (bytes : List ℕ) (script : ScriptValue) (notes : List NoteValue) (status : ℕ) (IsWritten : List ℕ → Type 0) → format ≡ Trace → (status ≡ 0 → IsWrittenRun format bytes script notes false IsWritten) → (status ≡ 4 → IsWrittenRun format bytes script notes true IsWritten) → HasRun status → IsWritten (trace_text bytes script notes)
-traced_written format bytes script notes status IsWritten is finished stuck (inl zero_is) = traced format bytes script notes false IsWritten is (finished zero_is)
-traced_written format bytes script notes status IsWritten is finished stuck (inr four_is) = traced format bytes script notes true IsWritten is (stuck four_is)
+  -- by the status
+  module _ (status : ℕ) (finished : status ≡ 0 → IsWrittenRun false) (stuck : status ≡ 4 → IsWrittenRun true) where
+    pub has_run : HasRun status → (end : RunState) × IsRunOf script (status == 4) notes end × HasMachine machine script end
+    has_run (inl zero_is) =
+        let told = finished zero_is in (told.1.0, subst (λ (s : ℕ). IsRunOf script (s == 4) notes told.1.0) (sym zero_is) told.1.1, told.1.2)
+    has_run (inr four_is) =
+        let told = stuck four_is in (told.1.0, subst (λ (s : ℕ). IsRunOf script (s == 4) notes told.1.0) (sym four_is) told.1.1, told.1.2)
 
--- the end of a run, by its status
-pub ended : (format : Format) (bytes : List ℕ) (script : ScriptValue) (notes : List NoteValue) (status : ℕ) (IsWritten : List ℕ → Type 0) → (status ≡ 0 → IsWrittenRun format bytes script notes false IsWritten) → (status ≡ 4 → IsWrittenRun format bytes script notes true IsWritten) → HasRun status → IsEnd script status notes
-ended format bytes script notes status IsWritten finished stuck (inl zero_is) =
-    let told = finished zero_is in
-    inl (zero_is, finished_run format bytes script notes IsWritten told, told.1.1.lines refl)
-ended format bytes script notes status IsWritten finished stuck (inr four_is) = inr (inl (four_is, stuck_run format bytes script notes IsWritten (stuck four_is)))
+    pub traced_written : format ≡ Trace → HasRun status → IsWritten (trace_text bytes script notes)
+    traced_written is (inl zero_is) = traced false is (finished zero_is)
+    traced_written is (inr four_is) = traced true is (stuck four_is)
+
+    -- the end of a run
+    pub ended : HasRun status → IsEnd script status notes
+    ended (inl zero_is) = let told = finished zero_is in inl (zero_is, finished_run told, told.1.1.lines refl)
+    ended (inr four_is) = inr (inl (four_is, stuck_run (stuck four_is)))

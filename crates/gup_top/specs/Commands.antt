@@ -18,7 +18,7 @@ use Rattle.gup_top.specs.LiveRun.{IsLiveTold}
 use Rattle.gup_top.specs.declared.command.Format.{Format}
 use Rattle.gup_top.specs.declared.serial.Report.{Report}
 use Rattle.gup_top.specs.Report.{IsRun, IsTraced, RunsScript, IsToldIn, IsChecked, IsMake, IsLiveIn, RunsLive, IsCommand}
-use Rattle.gup_top.specs.Report.{HasRun, IsStatus, IsMadeStatus, IsRunOf, IsMadeRun, IsPartlyTold, IsEnd, usage}
+use Rattle.gup_top.specs.Report.{HasRun, IsStatus, IsMadeStatus, IsRunOf, HasMachine, IsMadeRun, IsPartlyTold, IsEnd, usage}
 
 -- ---- the outside
 
@@ -72,10 +72,11 @@ pub record IsRunReport (words : List (List ℕ)) (before after : Outside) (repor
   pub statuses : IsStatus report.status
   -- The headline: where the source tells its bytes, they are a script, and the journal is that of its core run, which follows the
   -- script in its order, is plain and thorough, refuses with cause, and all else that is said of a run; at status 0 each actor has
-  -- finished, and at status 4 actors have operations left, and each of these waits for a process or for a pin.
+  -- finished, and at status 4 actors have operations left, and each of these waits for a process or for a pin. The machine is the one
+  -- at the end of that run.
   pub script : HasRun report.status → AreScript before.left
   pub ran : HasRun report.status → OfScript before.left
-      (λ script. (end : RunState) × IsRunOf script (report.status == 4) report.journal.notes end)
+      (λ script. (end : RunState) × IsRunOf script (report.status == 4) report.journal.notes end × HasMachine report.machine script end)
   -- What the sink took is the text of the journal, behind it at status 4 the actors that are stuck at its end, or the trace, which is one
   -- of this script and journal; and nothing else.
   pub text : IsRun words → report.status ≡ 0 → OfScript before.left (λ script. Takes before after (text_of script report.journal.notes))
@@ -90,12 +91,12 @@ pub record IsRunReport (words : List (List ℕ)) (before after : Outside) (repor
   -- bytes that are a script are run, where neither the source nor the sink fails, unless memory runs out
   pub complete : IsWell before after → OfScript before.left (λ script. IsEnd script report.status report.journal.notes)
   pub read : IsScriptRead before after report
-  -- at status 6 the sink took a prefix of the text of the run, if no script was refused
+  -- at status 6 the sink took a prefix of the text of the run, if no script was refused; the journal and the machine are that run's
   pub text_part : (format : Format) → IsToldIn words format → report.status ≡ 6 → OfText before.left
-      (λ bytes script. IsPartlyTold format bytes script report.journal.notes before.taken after.taken)
+      (λ bytes script. IsPartlyTold format bytes script report.journal.notes report.machine before.taken after.taken)
   pub refused_or_ran : (format : Format) → IsToldIn words format → report.status ≡ 6 → IsSome report.refusal
       ⊎ ((bytes : List ℕ) × (script : ScriptValue) × AreBytes before.left bytes × Accepts bytes script
-      × IsPartlyTold format bytes script report.journal.notes before.taken after.taken)
+      × IsPartlyTold format bytes script report.journal.notes report.machine before.taken after.taken)
 
 -- `live` and `live trace`: the actors of the script run on threads of their own. What is said here is so if they come to an end; actors that are
 -- stuck never do, so there is no status 4.
@@ -176,6 +177,15 @@ pub record IsRefusalTold (before after : Outside) (report : Report) : Type 0 whe
   pub refused_unrun : IfSome report.refusal (λ fault. report.journal.notes ≡ [])
   pub unrun : (report.status ≡ 2) ⊎ (report.status ≡ 3) ⊎ (report.status ≡ 5) ⊎ (report.status ≡ 7) → report.journal.notes ≡ []
 
+-- a script was run by `run` or `trace`, and its text was taken, or a write failed
+abbrev pub RanByWords : (words : List (List ℕ)) → Report → Type 0
+RanByWords words report = RunsScript words × (HasRun report.status ⊎ ((report.status ≡ 6) × (report.refusal ≡ None)))
+
+-- A machine is there exactly where a script was run so.
+pub record IsMachineTold (words : List (List ℕ)) (report : Report) : Type 0 where
+  pub there : RanByWords words report → IsSome report.machine
+  pub none : (RanByWords words report → ⊥) → report.machine ≡ None
+
 -- What the words ask is what is done. Status 2 comes exactly where they are no command, unless the sink fails.
 pub record IsReport (words : List (List ℕ)) (before after : Outside) (report : Report) : Type 0 where
   pub runs : RunsScript words → IsRunReport words before after report
@@ -187,3 +197,4 @@ pub record IsReport (words : List (List ℕ)) (before after : Outside) (report :
   pub live : (RunsLive words → ⊥) → report.live ≡ None
   pub faults : AreFaultsTold before after report.status
   pub refusal : IsRefusalTold before after report
+  pub machine : IsMachineTold words report

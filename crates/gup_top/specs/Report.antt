@@ -1,5 +1,5 @@
 -- What the top call is asked, and what it may answer.
-use Rattle.std.specs.Prelude.{◌≡◌, ℕ, ◌<◌, ◌^◌, ◌⊎◌, Bool, false, List, [], ◌∷◌, codes, decimal, length, Option, Some}
+use Rattle.std.specs.Prelude.{◌≡◌, ℕ, ◌<◌, ◌^◌, ◌⊎◌, Bool, false, List, [], ◌∷◌, codes, decimal, length, Option, Some, None}
 use Rattle.gup_plain.specs.Note.{NoteValue}
 use Rattle.gup_spec_turns.specs.Cost.{operations}
 use Rattle.gup_plain.specs.declared.note.Waiting.{Waiting}
@@ -112,20 +112,25 @@ pub record IsEndOfRun (script : ScriptValue) (stuck : Bool) (notes : List NoteVa
   pub turns : machine.turns ≡ end.turns
   pub named : (a : ℕ) (waiting : Waiting) → waiting_in script end a ≡ Some waiting → WaitsForBirthOrPin script waiting
 
+-- The machine is there, and is as it stands at the end of the run: it has the script, shows that state, and has counted its turns.
+abbrev pub HasMachine : Option MachineValue → ScriptValue → RunState → Type 0
+HasMachine None script end = ⊥
+HasMachine (Some machine) script end = (machine.script ≡ script) × Shows machine end × (machine.turns ≡ end.turns)
+
 -- The text of a run of the script that has these bytes. A trace has no lines of stuck actors.
 abbrev pub text_in : Format → (bytes : List ℕ) → ScriptValue → List NoteValue → RunState → List ℕ
 text_in Answers bytes script notes end = run_text script notes end
 text_in Trace bytes script notes end = trace_text bytes script notes
 
--- the script with these bytes has run to this journal, and this is the text of the run
-abbrev pub IsToldRun : Format → (bytes : List ℕ) → ScriptValue → (stuck : Bool) → List NoteValue → (text : List ℕ) → Type 0
-IsToldRun format bytes script stuck notes text =
-    (end : RunState) × IsRunOf script stuck notes end × (text ≡ text_in format bytes script notes end)
+-- the script with these bytes has run to this journal and this machine, and this is the text of the run
+abbrev pub IsToldRun : Format → (bytes : List ℕ) → ScriptValue → (stuck : Bool) → List NoteValue → Option MachineValue → (text : List ℕ) → Type 0
+IsToldRun format bytes script stuck notes machine text =
+    (end : RunState) × IsRunOf script stuck notes end × HasMachine machine script end × (text ≡ text_in format bytes script notes end)
 
--- the script has run to this journal, and a sink has taken a prefix of its text, and not all of it
-abbrev pub IsPartlyTold : Format → (bytes : List ℕ) → ScriptValue → List NoteValue → (taken taken_after : Option (List ℕ)) → Type 0
-IsPartlyTold format bytes script notes taken taken_after =
-    (stuck : Bool) × (text : List ℕ) × IsToldRun format bytes script stuck notes text × AppendsPart taken taken_after text
+-- the script has run to these, and a sink has taken a prefix of its text, and not all of it
+abbrev pub IsPartlyTold : Format → (bytes : List ℕ) → ScriptValue → List NoteValue → Option MachineValue → (taken taken_after : Option (List ℕ)) → Type 0
+IsPartlyTold format bytes script notes machine taken taken_after =
+    (stuck : Bool) × (text : List ℕ) × IsToldRun format bytes script stuck notes machine text × AppendsPart taken taken_after text
 
 -- the text that is made from n is that of a script, which has run, and this is the summary of the run
 abbrev pub IsMadeRun : (n : ℕ) → (stuck : Bool) → (text : List ℕ) → Type 0

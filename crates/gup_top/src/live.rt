@@ -48,6 +48,7 @@ pub fn live_and_write<R: Threads + Wait + Sync, K: Sink, P: Pace + Sync>(
     ensures statuses { (result.status ≡ 0) ⊎ (result.status ≡ 6) ⊎ (result.status ≡ 7) }
     ensures refusal { result.refusal ≡ None }
     ensures journal { result.journal.notes ≡ [] }
+    ensures machine { result.machine ≡ None }
     ensures finished { result.status ≡ 0
         → IsLiveTold format found.text.items found.script result.live (Appends (K.taken sink.old) (K.taken sink.new)) }
     ensures part { result.status ≡ 6
@@ -71,6 +72,7 @@ pub fn live_and_write<R: Threads + Wait + Sync, K: Sink, P: Pace + Sync>(
         journal: Journal::new(alloc),
         refusal: None,
         live: Some(told.live),
+        machine: None,
     }
 }
 

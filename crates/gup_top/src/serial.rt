@@ -1,5 +1,5 @@
 //! What the program does without threads, from its words and its bytes to its text.
-ghost use Rattle.std.specs.Prelude.{◌≡◌, ℕ, ◌⊎◌, Bool, List, [], None, Some, IfOk, true, false, if◌then◌else◌, map, string_bytes};
+ghost use Rattle.std.specs.Prelude.{◌≡◌, ℕ, ◌⊎◌, Bool, List, [], None, Some, IfOk, IsSome, true, false, if◌then◌else◌, map, string_bytes};
 ghost use Rattle.std.specs.Io.KnownBytes.{Appends};
 ghost use Rattle.std.specs.List.{All};
 ghost use Rattle.gup_io.specs.Transfers.{AppendsPart};
@@ -41,14 +41,17 @@ use gup_summary::summary_lines;
 use gup_trace::push_journal;
 use std::alloc::Global;
 
-/// What the program did: its exit status, the journal of the run, the fault of a script that was refused, and what actors have
-/// come to on threads of their own.
-#[derive(Debug, Drop)]
+/// What the program did: its exit status, the journal of the run, the fault of a script that was refused, what actors have
+/// come to on threads of their own, and the machine of the run.
+#[derive(Drop)]
 pub struct Report {
     pub status: u8,
     pub journal: Journal,
     pub refusal: Option<ScriptFault>,
     pub live: Option<Live>,
+    /// The machine as it stands at the end of a run by `run` or `trace`, with its frames, its processes and their page
+    /// tables, also where a write failed after the run. None where no script was run, and for every other command.
+    pub machine: Option<Machine>,
 }
 
 impl Report {
@@ -58,12 +61,14 @@ impl Report {
         ensures journal { result.journal.notes ≡ [] }
         ensures refusal { result.refusal ≡ refusal }
         ensures live { result.live ≡ None }
+        ensures machine { result.machine ≡ None }
     {
         Report {
             status,
             journal: Journal::new(alloc),
             refusal,
             live: None,
+            machine: None,
         }
     }
 }
@@ -92,18 +97,19 @@ fn run_script(alloc: Global, script: Script) -> Result<Run, NoMemory>
     run_machine(alloc, machine)
 }
 
-// A script that has run: its journal, whether actors are stuck at its end, and what is to be said of it.
-#[derive(Debug, Drop)]
+// A script that has run: its journal, whether actors are stuck at its end, the machine there, and what is to be said of it.
+#[derive(Drop)]
 struct Told {
     journal: Journal,
     stuck: bool,
+    machine: Machine,
     text: Vec<u8>,
 }
 
 // Runs the script, and tells the run. Each note of a trace has a line of its own.
 fn tell_run(alloc: Global, found: ReadScript, format: Format) -> Result<Told, NoMemory>
     ensures told { IfOk result
-        (λ told. IsToldRun format found.text.items found.script told.stuck told.journal.notes told.text.items) }
+        (λ told. IsToldRun format found.text.items found.script told.stuck told.journal.notes (Some told.machine) told.text.items) }
     ensures written { format ≡ Format.Trace → IfOk result (λ told. All (CanBeWritten found.script) told.journal.notes) }
 {
     match format {
@@ -115,7 +121,7 @@ fn tell_run(alloc: Global, found: ReadScript, format: Format) -> Result<Told, No
 // Runs the script, for its answers and the actors that are stuck.
 fn tell_answers(alloc: Global, found: ReadScript) -> Result<Told, NoMemory>
     ensures { IfOk result
-        (λ told. IsToldRun Format.Answers found.text.items found.script told.stuck told.journal.notes told.text.items) }
+        (λ told. IsToldRun Format.Answers found.text.items found.script told.stuck told.journal.notes (Some told.machine) told.text.items) }
 {
     let ran = run_script(alloc, found.script)?;
     let mut text = journal_text(alloc, ran.machine.script(), &ran.journal)?;
@@ -123,6 +129,7 @@ fn tell_answers(alloc: Global, found: ReadScript) -> Result<Told, NoMemory>
     Ok(Told {
         journal: ran.journal,
         stuck: ran.stuck,
+        machine: ran.machine,
         text,
     })
 }
@@ -130,7 +137,7 @@ fn tell_answers(alloc: Global, found: ReadScript) -> Result<Told, NoMemory>
 // Runs the script, for its trace, which begins with its own bytes.
 fn tell_trace(alloc: Global, found: ReadScript) -> Result<Told, NoMemory>
     ensures told { IfOk result
-        (λ told. IsToldRun Format.Trace found.text.items found.script told.stuck told.journal.notes told.text.items) }
+        (λ told. IsToldRun Format.Trace found.text.items found.script told.stuck told.journal.notes (Some told.machine) told.text.items) }
     ensures written { IfOk result (λ told. All (CanBeWritten found.script) told.journal.notes) }
 {
     journals_can_be_written();
@@ -141,6 +148,7 @@ fn tell_trace(alloc: Global, found: ReadScript) -> Result<Told, NoMemory>
     Ok(Told {
         journal: ran.journal,
         stuck: ran.stuck,
+        machine: ran.machine,
         text,
     })
 }
@@ -156,6 +164,7 @@ fn tell_made_run(alloc: Global, n: u64) -> Result<Told, NoMemory>
     Ok(Told {
         journal: ran.journal,
         stuck: ran.stuck,
+        machine: ran.machine,
         text,
     })
 }
@@ -180,6 +189,7 @@ pub fn refuse<K: Sink>(alloc: Global, sink: &mut K, fault: ScriptFault) -> Repor
     ensures statuses { (result.status ≡ 3) ⊎ (result.status ≡ 6) ⊎ (result.status ≡ 7) }
     ensures refusal { result.refusal ≡ Some fault }
     ensures live { result.live ≡ None }
+    ensures machine { result.machine ≡ None }
     ensures journal { result.journal.notes ≡ [] }
     ensures text { result.status ≡ 3 → Appends (K.taken sink.old) (K.taken sink.new) (refusal_text fault) }
     ensures part { result.status ≡ 6 → AppendsPart (K.taken sink.old) (K.taken sink.new) (refusal_text fault) }
@@ -204,13 +214,15 @@ fn run_and_write<K: Sink>(alloc: Global, sink: &mut K, found: ReadScript, format
     ensures statuses { HasRun result.status ⊎ (result.status ≡ 6) ⊎ (result.status ≡ 7) }
     ensures refusal { result.refusal ≡ None }
     ensures live { result.live ≡ None }
+    ensures machine { HasRun result.status ⊎ (result.status ≡ 6) → IsSome result.machine }
+    ensures unmade { result.status ≡ 7 → result.machine ≡ None }
     ensures written { format ≡ Format.Trace → HasRun result.status → All (CanBeWritten found.script) result.journal.notes }
-    ensures finished { result.status ≡ 0 → (text : List ℕ) × IsToldRun format found.text.items found.script false result.journal.notes text
+    ensures finished { result.status ≡ 0 → (text : List ℕ) × IsToldRun format found.text.items found.script false result.journal.notes result.machine text
         × Appends (K.taken sink.old) (K.taken sink.new) text }
-    ensures stuck { result.status ≡ 4 → (text : List ℕ) × IsToldRun format found.text.items found.script true result.journal.notes text
+    ensures stuck { result.status ≡ 4 → (text : List ℕ) × IsToldRun format found.text.items found.script true result.journal.notes result.machine text
         × Appends (K.taken sink.old) (K.taken sink.new) text }
     ensures part { result.status ≡ 6
-        → IsPartlyTold format found.text.items found.script result.journal.notes (K.taken sink.old) (K.taken sink.new) }
+        → IsPartlyTold format found.text.items found.script result.journal.notes result.machine (K.taken sink.old) (K.taken sink.new) }
     ensures write_fault { result.status ≡ 6
         → EndsInFault (K.faults sink.old) (K.faults sink.new) (K.faulted sink.new) }
     ensures uncounted { (result.status ≡ 6 → ⊥) → K.faults sink.new ≡ K.faults sink.old }
@@ -226,6 +238,7 @@ fn run_and_write<K: Sink>(alloc: Global, sink: &mut K, found: ReadScript, format
         journal: told.journal,
         refusal: None,
         live: None,
+        machine: Some(told.machine),
     }
 }
 
@@ -234,6 +247,7 @@ fn make_and_write<K: Sink>(alloc: Global, sink: &mut K, n: u64) -> Report
     ensures statuses { IsMadeStatus result.status }
     ensures refusal { result.refusal ≡ None }
     ensures live { result.live ≡ None }
+    ensures machine { result.machine ≡ None }
     ensures journal { result.journal.notes ≡ [] }
     ensures finished { result.status ≡ 0 → (text : List ℕ) × IsMadeRun n false text
         × Appends (K.taken sink.old) (K.taken sink.new) text }
@@ -269,6 +283,7 @@ fn show_usage<K: Sink>(alloc: Global, sink: &mut K) -> Report
     ensures statuses { (result.status ≡ 2) ⊎ (result.status ≡ 6) }
     ensures refusal { result.refusal ≡ None }
     ensures live { result.live ≡ None }
+    ensures machine { result.machine ≡ None }
     ensures journal { result.journal.notes ≡ [] }
     ensures text { result.status ≡ 2 → Appends (K.taken sink.old) (K.taken sink.new) usage }
     ensures part { result.status ≡ 6 → AppendsPart (K.taken sink.old) (K.taken sink.new) usage }

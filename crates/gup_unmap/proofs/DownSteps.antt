@@ -39,6 +39,8 @@ unmapped F S S' page None entry had none space =
             structure = refl;
             table = refl;
             walks = refl;
+            place = refl;
+            retired = refl;
           });
       table = ap (λ (x : SpaceValue). x.table) space;
     })
@@ -62,6 +64,8 @@ unmapped_empty F S S' page (Some rights) None had some found none space =
             structure = refl;
             table = refl;
             walks = refl;
+            place = refl;
+            retired = refl;
           });
       table = ap (λ (x : SpaceValue). x.table) space;
     })
@@ -86,6 +90,8 @@ unmapped_entry F F' S S1 S' page (Some rights) (Some d) e had some found first s
             structure = refl;
             table = refl;
             walks = refl;
+            place = refl;
+            retired = refl;
           });
       table = ap (λ (x : SpaceValue). x.table) (space ∙ ap (λ (x : SpaceValue). with_entry page None x) first);
     })

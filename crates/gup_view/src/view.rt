@@ -181,6 +181,7 @@ impl View {
             }
             Fact::Stands { actor, job, .. } => self.add_job(actor, job),
             Fact::Pin { .. } | Fact::Gone { .. } | Fact::Stored { .. } => Ok(()),
+            Fact::Used { .. } | Fact::Table { .. } | Fact::Retired { .. } => Ok(()),
         }
     }
 

@@ -1,17 +1,18 @@
 use Rattle.std.proofs.Common.{◌≡◌, Some, true, false, ap, sym, refl, ◌∙◌}
 use Rattle.gup_plain.specs.declared.answer.Answer.TheVariants as answers
 use Rattle.gup_frames.specs.Frames.{FramesValue, frames_of, free_frame, with_mark}
+use Rattle.gup_space.specs.Found.{found_for}
 use Rattle.gup_space.specs.Space.{space_of}
 use Rattle.gup_spec_events.specs.Fault.{fills}
-use Rattle.gup_fault.proofs.Puts.{free_is_free}
+use Rattle.gup_fault.proofs.Puts.{free_is_free, none_at, found_free}
 use Rattle.gup_fault.proofs.FaultSteps.{changes_alike, refused, filled, filled_frames, filled_mark, exclusive}
 use Rattle.gup_fault.proofs.steps.fill.Goals as goal
 
 pub returns-in_default-clause-fault : goal.returns-in_default-clause-fault
 returns-in_default-clause-fault c =
     refused (frames_of c.args.frames.now) _ (space_of c.args.space.now) _ answers.NoFrame
-    (λ a p. fills a p c.args.page (free_frame (frames_of c.args.frames.now) c.args.allowed)) c.in_default.ensures.taken refl
-    (λ a p. ap (fills a p c.args.page) (sym c.in_default.ensures.frame))
+    (λ a p. fills a p c.args.page (found_for (frames_of c.args.frames.now) (space_of c.args.space.now) c.args.page c.args.allowed)) c.in_default.ensures.taken refl
+    (λ a p. ap (fills a p c.args.page) (found_free (frames_of c.args.frames.now) (space_of c.args.space.now) c.args.page c.args.allowed (none_at c.lacks.ensures c.if-lacks-gt0.false) ∙ sym c.in_default.ensures.frame))
 
 pub returns-clause-fault : goal.returns-clause-fault
 returns-clause-fault c =
@@ -21,7 +22,7 @@ returns-clause-fault c =
     let free : free_frame F c.args.allowed ≡ Some f = sym c.in-Some.ensures.frame in
     let frames : frames_of c.set_mark.new.self ≡ filled_frames f F = c.set_mark.ensures ∙ ap (λ (x : FramesValue). with_mark f true x) c.in-Some.ensures.taken in
     changes_alike F (filled_frames f F) _ S _ _ _ _ frames c.set_entry.ensures
-    (filled F S c.args.page f (free_frame F c.args.allowed) free (free_is_free F c.args.allowed f free) c.requires.absent)
+    (filled F S c.args.page f (found_for F S c.args.page c.args.allowed) (found_free F S c.args.page c.args.allowed (none_at c.lacks.ensures c.if-lacks-gt0.false) ∙ free) (free_is_free F c.args.allowed f free) c.requires.absent)
 
 pub returns-clause-entry : goal.returns-clause-entry
 returns-clause-entry c =

@@ -17,6 +17,6 @@ loop-p-preserved c =
     let here : slice_get spaces p ≡ Some c.index-in-loop-p.result.now =
     slice_get_read spaces (length spaces) p c.index-in-loop-p.result.now refl within c.index-in-loop-p.ensures in
     let is_born : slice_get births c.proc_no.result ≡ Some c.index.result.now = ap (slice_get births) c.proc_no.ensures ∙ born in
-    along-at (λ q (space : SpaceParts). born_facts q (slice_get births q) space) spaces p c.proc_no.result c.index-in-loop-p.result.now _ _ _ c.loop-p.invariant c.proc_no.ensures here
+    along-at (λ q (space : SpaceParts). born_facts c.args.tables q (slice_get births q) space) spaces p c.proc_no.result c.index-in-loop-p.result.now _ _ _ c.loop-p.invariant c.proc_no.ensures here
     (c.in_ok-push_process.ensures
-    ∙ ap (λ (o : Option Birth). c.loop-p.facts.items ++ born_facts c.proc_no.result o c.index-in-loop-p.result.now) (sym is_born))
+    ∙ ap (λ (o : Option Birth). c.loop-p.facts.items ++ born_facts c.args.tables c.proc_no.result o c.index-in-loop-p.result.now) (sym is_born))

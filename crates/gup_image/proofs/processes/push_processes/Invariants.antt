@@ -7,4 +7,4 @@ use Rattle.gup_image.proofs.processes.push_processes.Given as goal
 abbrev pub invariant-loop-p : goal.invariant-loop-p
 invariant-loop-p l =
     l.facts.items ≡ l.initial.facts.items
-    ++ gathered (λ k. at_place (λ p (space : SpaceParts). born_facts p (slice_get l.parts.births.items p) space) k (slice_get l.parts.spaces.items k)) l.p
+    ++ gathered (λ k. at_place (λ p (space : SpaceParts). born_facts l.tables p (slice_get l.parts.births.items p) space) k (slice_get l.parts.spaces.items k)) l.p

@@ -12,4 +12,5 @@ returns c s slots k q g shown far place at some =
     let pages : (x : ArrayVec ℕ) × (slice_get c.args.parts.now.taken.items a ≡ Some x) = element_there c.args.parts.now.taken.items a c.requires.actor in
     let got : c.pages_taken-got.result ≡ length (s.taken a) =
     c.pages_taken-got.ensures pages.0 pages.1 ∙ ap length (sym (shown.taken a pages.0 pages.1)) ∙ length_frames (s.taken a) in
-    c.invalidated.ensures s a slots k shown.frames (shown.spaces c.args.proc c.space_at-space.result.now c.space_at-space.ensures) place got far at q g some
+    c.invalidated.ensures s a slots k shown.frames (shown.spaces c.args.proc c.space_at-space.result.now c.space_at-space.ensures)
+    (c.child_at-child.ensures s shown.spaces) place got far at q g some

@@ -1,4 +1,5 @@
 use Rattle.std.proofs.Common.{◌≡◌, ◌+◌, ◌==◌, ◌&&◌, not, Bool, sym, ap, ◌∙◌}
+use Rattle.std.specs.Option.{option_copied}
 use Rattle.gup_frames.specs.Frames.{frames_of}
 use Rattle.gup_space.specs.Space.{space_of}
 use Rattle.gup_spec_turns.specs.JobPlace.{JobPlace}
@@ -10,20 +11,20 @@ use Rattle.gup_op_mirrors.proofs.ranges.first_page.Goals as goal
 use Rattle.gup_op_mirrors.proofs.ranges.first_page.Goals.{then-fast, else-fast}
 
 pub returns-in-Protect : goal.returns-in-Protect
-returns-in-Protect c s a p k frames space place many fits at =
+returns-in-Protect c s a p k frames space kid place many fits at =
     let protect = c.in-Protect in
     c.page_if.ensures
     ∙ ap (λ (b : Bool). page_if b protect.page) c.are_mapped.ensures
     ∙ protect_page (space_of c.args.space.now) s a p k protect.page protect.n protect.rights c.args.op.now protect.is space
 
 pub returns-in-Fork : goal.returns-in-Fork
-returns-in-Fork c s a p k frames space place many fits at =
+returns-in-Fork c s a p k frames space kid place many fits at =
     let fork = c.in-Fork in
     c.shared.ensures
-    ∙ shared_page (frames_of c.args.frames.now) s a p k fork.child (place_of c.args.place.now) c.args.op.now fork.is frames place
+    ∙ shared_page (frames_of c.args.frames.now) (option_copied c.args.child) s a p k fork.child (place_of c.args.place.now) c.args.op.now fork.is frames kid place
 
 pub returns-after-fast : goal.returns-after-fast
-returns-after-fast c s a p k frames space place many fits at =
+returns-after-fast c s a p k frames space kid place many fits at =
     let pin = c.in-Pin in
     let op = c.args.op.now in
     let got = c.args.got in

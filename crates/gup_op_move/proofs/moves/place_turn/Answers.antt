@@ -19,9 +19,6 @@ says a p page zone e None false is = refl
 says a p page zone e (Some f) true is = refl
 says a p page zone e (Some f) false is = absurd (cc is)
 
-pub place-requires-clause-room : goal.place-requires-clause-room
-place-requires-clause-room c = c.has_room.ensures c.requires.tidy.mapped
-
 pub returns : goal.returns
 returns c =
     let x = c.args in

@@ -2,10 +2,11 @@ use Rattle.std.proofs.Common.{◌≡◌, ℕ, ◌+◌, ◌<◌, ◌≤◌, false
 use Rattle.std.proofs.lemmas.Option.{MatchOption-at_some}
 use Rattle.gup_plain.specs.Put.{lowest}
 use Rattle.gup_tables.specs.Pool.{PoolValue, pool_of, with_free, free_tables}
-use Rattle.gup_spec_tables.specs.Tables.{TreeValue, with_table}
+use Rattle.gup_spec_tables.specs.Tables.{TreeValue, lacks, with_table}
 use Rattle.gup_tables.specs.Tree.{tree_of}
 use Rattle.gup_page_tables.specs.PageTables.{Both, all_of, takes}
 use Rattle.gup_page_tables.proofs.Taken.{some_free, unplaced, fits, fewer, takes_own, takes_kept, step_grown, own_is, kept_is}
+use Rattle.gup_page_tables.proofs.Fuller.{fuller}
 use Rattle.gup_page_tables.proofs.page_tables.take_all.Goals as goal
 
 some : (free k end : ℕ) → end ≤ free + k → k < end → 0 < free
@@ -47,6 +48,7 @@ loop-k-preserved c =
     let is = new_is c in
     let low = lowest_is c in
     let table = c.unwrap-table.result in
+    let new = unplaced b i.own i.kept c.is_counted.ensures table c.args.page low in
     let less = fewer b i.own i.kept c.is_counted.ensures table c.args.page low in
     let free_is : free_tables (pool_of c.take.new.self) ≡ free_tables (takes c.args.page (Some table) b).pool = ap (λ (x : Both). free_tables x.pool) is in
     record {
@@ -54,6 +56,8 @@ loop-k-preserved c =
       enough = omega (arith, i.enough, less, free_is);
       grown = step_grown b _ _ c.args.page table c.loop-k.k c.lacks-k-end.result low is c.loop-k-test.true i.grown;
       entries = ap (λ (t : TreeValue). t.entry) c.add.ensures.tree ∙ i.entries;
+      room = ap (λ (t : TreeValue). t.room) c.add.ensures.tree ∙ i.room;
+      full = λ g none. ap (λ (t : TreeValue). lacks t g) c.add.ensures.tree ∙ fuller (tree_of c.loop-k.tree) table c.args.page g new (i.full g none);
       own = own_is _ _ is (takes_own b i.own i.kept c.is_counted.ensures table c.args.page low);
       kept = kept_is _ _ is (takes_kept b i.own i.kept c.is_counted.ensures table c.args.page low);
     }

@@ -1,4 +1,4 @@
-use Rattle.std.proofs.Common.{◌≡◌, ◌+◌, ◌-◌, ◌≤◌}
+use Rattle.std.proofs.Common.{◌≡◌, ℕ, ◌+◌, ◌-◌, ◌≤◌}
 use Rattle.gup_tables.specs.Pool.{pool_of, free_tables}
 use Rattle.gup_spec_tables.specs.Tables.{lacks}
 use Rattle.gup_tables.specs.Tree.{tree_of}
@@ -13,6 +13,8 @@ invariant-loop-k l = record {
   enough : l.k-end ≤ free_tables (pool_of l.pool) + l.k;
   grown : grows l.page (l.k-end - l.k) (all_of l.tree l.limbo (pool_of l.pool)) ≡ grows l.page l.k-end (all_of l.initial.tree l.limbo (pool_of l.initial.pool));
   entries : (tree_of l.tree).entry ≡ (tree_of l.initial.tree).entry;
+  room : (tree_of l.tree).room ≡ (tree_of l.initial.tree).room;
+  full : (g : ℕ) → lacks (tree_of l.initial.tree) g ≡ 0 → lacks (tree_of l.tree) g ≡ 0;
   own : IsOf (all_of l.tree l.limbo (pool_of l.pool));
   kept : IsKept (some_of l.tree l.limbo);
 }

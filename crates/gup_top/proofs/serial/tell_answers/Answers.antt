@@ -22,6 +22,7 @@ returns c =
     let of_stuck : c.script-2.result.now ≡ script = c.script-2.ensures ∙ c.in_ok-ran.ensures.script in (
       end,
       run.1.run,
+      (c.in_ok-ran.ensures.script, run.1.shown, run.1.turns),
       c.in_ok-push_stuck_lines.ensures end run.1.shown
           ∙ ap (λ (l : List ℕ). l ++ stuck_text c.script-2.result.now end) c.in_ok-text.ensures
           ∙ ap (λ (s : ScriptValue). text_of s notes ++ stuck_text c.script-2.result.now end) of_lines

@@ -14,6 +14,7 @@ returns-clause-told c =
     let of_lines : c.script.result.now ≡ c.args.found.script = c.script.ensures ∙ c.in_ok-ran.ensures.script in (
       run.0,
       run.1.run,
+      (c.in_ok-ran.ensures.script, run.1.shown, run.1.turns),
       c.in_ok-push_journal.ensures.ok
           ∙ ap (λ (ns : List NoteValue). bytes ++ (journal_line ++ flat_map (note_line c.script.result.now) ns)) c.notes.ensures
           ∙ ap (λ (s : ScriptValue). bytes ++ (journal_line ++ flat_map (note_line s) notes)) of_lines

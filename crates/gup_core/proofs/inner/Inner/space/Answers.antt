@@ -1,6 +1,6 @@
 use Rattle.std.proofs.Common.{ℕ, ◌<◌, length, sym, subst}
 use Rattle.gup_core.specs.Machine.{MachineValue, Shows}
-use Rattle.gup_core.proofs.Parting.{was_there}
+use Rattle.gup_op_tables.proofs.Replaced.{was_there}
 use Rattle.gup_core.proofs.inner.Inner.space.Goals as goal
 
 pub returns : goal.returns

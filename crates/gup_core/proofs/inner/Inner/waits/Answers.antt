@@ -9,7 +9,7 @@ pub returns : goal.returns
 returns c =
     let i = c.self.inside in
     let a = c.args.actor in
-    let m = machine_of i.script i.parts i.mirrors i.seats.items i.turns in
+    let m = machine_of i.script i.parts i.mirrors i.seats.items i.pool i.turns in
     let rest = subst (λ (x : MachineValue). IsAtRest x) (sym c.self.view_is) c.rests.ensures in
     let here = subst (λ (x : MachineValue). slice_get x.seats a ≡ Some c.seat-seat.result) (sym c.self.view_is) c.seat-seat.ensures in
     let op = sym (ap (λ ops. slice_get ops c.seat-seat.result.answered) c.ops.ensures) ∙ c.in-Some.ensures in

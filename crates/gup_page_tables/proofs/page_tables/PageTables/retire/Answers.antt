@@ -26,6 +26,9 @@ returns-clause-tables c =
 pub returns-clause-entries : goal.returns-clause-entries
 returns-clause-entries c = c.take_out_all.ensures.entries ∙ ap (λ (s : TablesParts). (tables_of s).tree.entry) c.self.view_is
 
+pub returns-clause-room : goal.returns-clause-room
+returns-clause-room c = c.take_out_all.ensures.room ∙ ap (λ (s : TablesParts). (tables_of s).tree.room) c.self.view_is
+
 pub returns-clause-own : goal.returns-clause-own
 returns-clause-own c =
     let own : IsOf (all_of c.self.inside.tree c.self.inside.limbo (pool_of c.args.pool.now)) = rw (← c.self.view_is) at c.requires in

@@ -5,4 +5,4 @@ use Rattle.gup_space.proofs.space.Space.protect.Goals as goal
 pub returns-clause-protected : goal.returns-clause-protected
 returns-clause-protected c =
     rw (← c.self.view_is)
-    (on_ok_weaker c.protect.result (λ right. other_rights _ _ _ _ _ _ _ _ _ _ _ right c.protect.ensures.pages) c.protect.ensures.right)
+    (on_ok_weaker c.protect.result (λ right. other_rights _ _ _ _ _ _ _ _ _ _ _ _ right c.protect.ensures.pages) c.protect.ensures.right)

@@ -1,0 +1,4 @@
+pub mod Spots
+pub mod Alike
+pub mod Released
+pub mod Turns
