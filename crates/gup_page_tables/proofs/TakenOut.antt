@@ -1,13 +1,22 @@
 -- A table is taken out of the tree, and waits.
-use Rattle.std.proofs.Common.{◌≡◌, ◌≢◌, ℕ, ◌<◌, ◌==◌, ◌||◌, Bool, true, false, [], ◌∷◌, length, length-append, Some, None, is_some, refl, ap, sym, ◌∙◌, ⊎_elim, arith}
+use Rattle.std.proofs.Common.{◌≡◌, ◌≢◌, ℕ, zero, suc, ◌<◌, ◌==◌, ◌||◌, Bool, true, false, [], ◌∷◌, length, length-append, Option, Some, None, is_some, refl, ap, sym, ◌∙◌, ⊎_elim, arith}
 use Rattle.std.proofs.lemmas.Bool.{cases_eq}
 use Rattle.std.proofs.lemmas.Bool.Decides.{nat_tests}
 use Rattle.gup_spec_tables.specs.Tables.{table_numbers, placed_tables, detachable, is_among}
 use Rattle.gup_spec_tables.proofs.Among.{among_behind, apart_behind}
 use Rattle.gup_tables.proofs.Detachable.{stands}
-use Rattle.gup_page_tables.specs.PageTables.{TablesValue, has_table, retires}
+use Rattle.gup_page_tables.specs.PageTables.{TablesValue, has_table, retires, shrinks}
 use Rattle.gup_page_tables.specs.Kept.{IsKept}
 use Rattle.gup_tables.proofs.FreeTables.{some_passing}
+
+-- where none can be taken out, none is
+none_out : (o : Option ℕ) (v : TablesValue) → is_some o ≡ false → retires o v ≡ v
+none_out None v none = refl
+none_out (Some table) v none = absurd cc
+
+pub stuck : (page n : ℕ) (v : TablesValue) → is_some (detachable v.tree page) ≡ false → shrinks page n v ≡ v
+stuck page zero v none = refl
+stuck page (suc n) v none = ap (shrinks page n) (none_out (detachable v.tree page) v none) ∙ stuck page n v none
 
 module _ (v : TablesValue) (kept : IsKept v) (counted : placed_tables v.tree.place ≡ v.tree.tables) (page table : ℕ) (is : detachable v.tree page ≡ Some table) where
   placed : is_some (v.tree.place table) ≡ true

@@ -1,5 +1,5 @@
 //! The page tables of one process.
-ghost use Rattle.std.specs.Prelude.{◌≡◌, ℕ, ◌+◌, ◌-◌, ◌<◌, ◌≤◌, ◌^◌, ◌==◌, nat_lt, if◌then◌else◌, [], length, true, false, is_err, None, Some, IfOk, IfSome, IsSome, OnOk, OnErr, MatchOption, OnSome};
+ghost use Rattle.std.specs.Prelude.{◌≡◌, ℕ, ◌+◌, ◌-◌, ◌<◌, ◌≤◌, ◌^◌, ◌==◌, nat_lt, if◌then◌else◌, [], length, true, false, is_err, is_some, None, Some, IfOk, IfSome, IsSome, OnOk, OnErr, MatchOption, OnSome};
 ghost use Rattle.std.specs.VecDeque.Iter.{deque_iter_rest};
 ghost use Rattle.gup_base.specs.Packing.{pack_of};
 ghost use Rattle.gup_limbo.specs.Limbo.{LimboValue};
@@ -65,8 +65,9 @@ fn reclaim_all(limbo: &mut Limbo<Table>, pool: &mut Pool)
     }
 }
 
-// Gives the page the tables that it lacks. So many are free.
-fn take_all(tree: &mut Tree, limbo: &Limbo<Table>, pool: &mut Pool, page: PageNo)
+// Gives the page the tables that it lacks, which are so many. So many are free.
+fn take_all(tree: &mut Tree, limbo: &Limbo<Table>, pool: &mut Pool, page: PageNo, lacking: u8)
+    requires lacking { lacking ≡ lacks (tree_of tree.old) page }
     requires own { IsOf (all_of tree.old limbo.now (pool_of pool.old)) }
     requires kept { IsKept (some_of tree.old limbo.now) }
     requires enough { lacks (tree_of tree.old) page ≤ free_tables (pool_of pool.old) }
@@ -79,16 +80,17 @@ fn take_all(tree: &mut Tree, limbo: &Limbo<Table>, pool: &mut Pool, page: PageNo
     ensures own { IsOf (all_of tree.new limbo.now (pool_of pool.new)) }
     ensures kept { IsKept (some_of tree.new limbo.now) }
 {
-    for k in 0..tree.lacks(page) {
+    for k in 0..lacking {
         tree.is_counted();
         let table = pool.take().unwrap();
         tree.add(page, table);
     }
 }
 
-// Takes the lowest table of the page's path out, if it is empty and isn't the root.
-fn take_out(tree: &mut Tree, limbo: &mut Limbo<Table>, page: PageNo)
+// Takes the lowest table of the page's path out, if it is empty and isn't the root, and answers whether it did.
+fn take_out(tree: &mut Tree, limbo: &mut Limbo<Table>, page: PageNo) -> bool
     requires kept { IsKept (some_of tree.old limbo.old) }
+    ensures out { result ≡ is_some (detachable (tree_of tree.old) page) }
     ensures shrunk { some_of tree.new limbo.new ≡ retires (detachable (tree_of tree.old) page) (some_of tree.old limbo.old) }
     ensures entries { (tree_of tree.new).entry ≡ (tree_of tree.old).entry }
     ensures same { (table : ℕ) → has_table (some_of tree.new limbo.new) table ≡ has_table (some_of tree.old limbo.old) table }
@@ -96,9 +98,11 @@ fn take_out(tree: &mut Tree, limbo: &mut Limbo<Table>, page: PageNo)
     ensures kept { IsKept (some_of tree.new limbo.new) }
 {
     tree.is_counted();
-    if let Some(table) = tree.detach(page) {
-        limbo.retire(table);
-    }
+    let Some(table) = tree.detach(page) else {
+        return false;
+    };
+    limbo.retire(table);
+    true
 }
 
 // Takes the empty tables of the page's path out, from the lowest one up, but never the root.
@@ -110,8 +114,12 @@ fn take_out_all(tree: &mut Tree, limbo: &mut Limbo<Table>, page: PageNo)
     ensures room { (tree_of tree.new).room ≡ (tree_of tree.old).room }
     ensures kept { IsKept (some_of tree.new limbo.new) }
 {
-    take_out(tree, limbo, page);
-    take_out(tree, limbo, page);
+    if !take_out(tree, limbo, page) {
+        return;
+    }
+    if !take_out(tree, limbo, page) {
+        return;
+    }
     take_out(tree, limbo, page);
 }
 
@@ -298,7 +306,7 @@ impl PageTables {
         if pool.free() < u32::from(lacking) {
             return Err(NoTable);
         }
-        take_all(&mut self.tree, &self.limbo, pool, page);
+        take_all(&mut self.tree, &self.limbo, pool, page, lacking);
         Ok(())
     }
 

@@ -88,6 +88,7 @@ impl Tree {
     }
 
     // The lowest table of the page's path whose level isn't below `bottom`.
+    #[inline(always)]
     fn descend(&self, page: PageNo, bottom: u8) -> Option<Step>
         requires { (0 < bottom) × (bottom ≤ 4) }
         ensures { MatchOption result (table_at (tree_of self.now).place (on_path 4 page) ≡ None) (IsLowest (tree_of self.now) page bottom) }

@@ -15,7 +15,7 @@ some free k end enough less = omega (arith, enough, less)
 pub unwrap-table-requires : goal.unwrap-table-requires
 unwrap-table-requires c =
     let b = all_of c.loop-k.tree c.args.limbo.now (pool_of c.loop-k.pool) in
-    let free = some_free b c.loop-k.invariant.own c.loop-k.invariant.kept c.is_counted.ensures (some _ c.loop-k.k c.lacks-k-end.result c.loop-k.invariant.enough c.loop-k-test.true) in
+    let free = some_free b c.loop-k.invariant.own c.loop-k.invariant.kept c.is_counted.ensures (some _ c.loop-k.k c.args.lacking c.loop-k.invariant.enough c.loop-k-test.true) in
     rw c.take.ensures.table free
 
 lowest_is : (c : goal.After-add) → lowest 0 (pool_of c.loop-k.pool).tables (pool_of c.loop-k.pool).free ≡ Some c.unwrap-table.result
@@ -54,7 +54,7 @@ loop-k-preserved c =
     record {
       left = omega (arith, i.left, c.add.ensures.lacks);
       enough = omega (arith, i.enough, less, free_is);
-      grown = step_grown b _ _ c.args.page table c.loop-k.k c.lacks-k-end.result low is c.loop-k-test.true i.grown;
+      grown = step_grown b _ _ c.args.page table c.loop-k.k c.args.lacking low is c.loop-k-test.true i.grown;
       entries = ap (λ (t : TreeValue). t.entry) c.add.ensures.tree ∙ i.entries;
       room = ap (λ (t : TreeValue). t.room) c.add.ensures.tree ∙ i.room;
       full = λ g none. ap (λ (t : TreeValue). lacks t g) c.add.ensures.tree ∙ fuller (tree_of c.loop-k.tree) table c.args.page g new (i.full g none);

@@ -9,9 +9,9 @@ use Rattle.gup_page_tables.proofs.page_tables.take_all.Given as goal
 -- what comes of the tables that the page still lacks is what comes of all that it lacked
 abbrev pub invariant-loop-k : goal.invariant-loop-k
 invariant-loop-k l = record {
-  left : lacks (tree_of l.tree) l.page + l.k ≡ l.k-end;
-  enough : l.k-end ≤ free_tables (pool_of l.pool) + l.k;
-  grown : grows l.page (l.k-end - l.k) (all_of l.tree l.limbo (pool_of l.pool)) ≡ grows l.page l.k-end (all_of l.initial.tree l.limbo (pool_of l.initial.pool));
+  left : lacks (tree_of l.tree) l.page + l.k ≡ l.lacking;
+  enough : l.lacking ≤ free_tables (pool_of l.pool) + l.k;
+  grown : grows l.page (l.lacking - l.k) (all_of l.tree l.limbo (pool_of l.pool)) ≡ grows l.page l.lacking (all_of l.initial.tree l.limbo (pool_of l.initial.pool));
   entries : (tree_of l.tree).entry ≡ (tree_of l.initial.tree).entry;
   room : (tree_of l.tree).room ≡ (tree_of l.initial.tree).room;
   full : (g : ℕ) → lacks (tree_of l.initial.tree) g ≡ 0 → lacks (tree_of l.tree) g ≡ 0;

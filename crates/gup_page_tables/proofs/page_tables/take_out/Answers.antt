@@ -20,13 +20,13 @@ new_is c = ap (λ t. tables_with t c.retire.new.self) c.in-Some.ensures.tree ∙
 kept_by : (v w : TablesValue) → v ≡ w → IsKept w → IsKept v
 kept_by v w is kept = rw is kept
 
-pub returns-in-Some-clause-same : goal.returns-in-Some-clause-same
-returns-in-Some-clause-same c = λ t.
+pub returns-clause-same : goal.returns-clause-same
+returns-clause-same c = λ t.
     ap (λ v. has_table v t) (new_is c)
     ∙ same_has (some_of c.args.tree.now c.args.limbo.now) c.requires.kept c.is_counted.ensures c.args.page c.in-Some.table (sym c.in-Some.ensures.table) t
 
-pub returns-in-Some-clause-kept : goal.returns-in-Some-clause-kept
-returns-in-Some-clause-kept c =
+pub returns-clause-kept : goal.returns-clause-kept
+returns-clause-kept c =
     kept_by _ _ (new_is c) (retires_kept (some_of c.args.tree.now c.args.limbo.now) c.requires.kept c.is_counted.ensures c.args.page c.in-Some.table (sym c.in-Some.ensures.table))
 
 pub returns-in_default-clause-same : goal.returns-in_default-clause-same
