@@ -156,13 +156,13 @@ is_open (Some w) = not (is_over w.step)
 
 -- the page and the entry that a walk is trying
 abbrev pub tried_page : WalkStep → Option ℕ
-tried_page (read page e) = Some page
-tried_page (grabbed page e) = Some page
+tried_page (read page path e) = Some page
+tried_page (grabbed page path e) = Some page
 tried_page step = None
 
 abbrev pub tried_entry : WalkStep → Option Entry
-tried_entry (read page e) = Some e
-tried_entry (grabbed page e) = Some e
+tried_entry (read page path e) = Some e
+tried_entry (grabbed page path e) = Some e
 tried_entry step = None
 
 -- the entry of the page taken last, whose mark a walk has yet to read

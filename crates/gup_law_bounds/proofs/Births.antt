@@ -4,7 +4,7 @@ use Rattle.std.proofs.lemmas.Bool.Decides.{nat_tests}
 use Rattle.gup_plain.specs.Put.{put}
 use Rattle.gup_plain.specs.State.{Birth, unborn, growing, born, failed}
 use Rattle.gup_spec_events.specs.State.{CoreState, forking, ForkStep, between, counted, lowered, cleared, copying, failing}
-use Rattle.gup_spec_events.specs.Event.{CoreEvent, Can, happens, MayFail, is_odd, take_frame, fill, count_one, set_mark, upgrade, break_entry, put_entry, raise_flag, pin_page, make_handle, unpin_page, give_handle, take_handle, get_reference, put_reference, clear_entry, count_moved, place_frame, restore_entry, begin_fork, count_page, share_entry, share_mark, share_child, copy_word, place_child, pass_page, end_fork, fail_fork, put_child, fail_unborn, map_pages, lower_entry, protect_pages, drop_entry, discard_entry, add_table, take_out, reclaim, load, store, move_out, move_in, empty_mirror, fill_mirror, look, enter_walk, read_sequence, read_entry, grab_frame, miss_frame, recheck_same, recheck_other, read_mark, read_again, drop_grab, drop_last, drop_first, leave_walk}
+use Rattle.gup_spec_events.specs.Event.{CoreEvent, Can, happens, MayFail, is_odd, take_frame, fill, count_one, set_mark, upgrade, break_entry, put_entry, raise_flag, pin_page, make_handle, unpin_page, give_handle, take_handle, get_reference, put_reference, clear_entry, count_moved, place_frame, restore_entry, begin_fork, count_page, share_entry, share_mark, share_child, copy_word, place_child, pass_page, end_fork, fail_fork, put_child, fail_unborn, map_pages, lower_entry, protect_pages, drop_entry, discard_entry, add_table, take_out, reclaim, load, store, move_out, move_in, empty_mirror, fill_mirror, look, enter_walk, read_sequence, read_link, read_entry, grab_frame, miss_frame, recheck_above, recheck_same, recheck_other, read_mark, read_again, drop_grab, drop_last, drop_first, leave_walk}
 use Rattle.gup_law_base.specs.Sound.{IsSound, Forking, forking_of, is_failing}
 use Rattle.gup_law_base.proofs.Numbers.{by_number}
 
@@ -172,11 +172,13 @@ forked_event n s (fill_mirror a m p page f writable) low sound can h = h
 forked_event n s (look a m word f value) low sound can h = h
 forked_event n s (enter_walk a p write long) low sound can h = h
 forked_event n s (read_sequence a p write long sequence) low sound can h = h
-forked_event n s (read_entry a p write long sequence page was) low sound can h = h
-forked_event n s (grab_frame a p write long sequence page entry) low sound can h = h
-forked_event n s (miss_frame a p write long sequence page entry) low sound can h = h
-forked_event n s (recheck_same a p write long sequence page entry) low sound can h = h
-forked_event n s (recheck_other a p write long sequence page entry) low sound can h = h
+forked_event n s (read_link a p write long sequence page path next) low sound can h = h
+forked_event n s (read_entry a p write long sequence page path was) low sound can h = h
+forked_event n s (grab_frame a p write long sequence page path entry) low sound can h = h
+forked_event n s (miss_frame a p write long sequence page path entry) low sound can h = h
+forked_event n s (recheck_above a p write long sequence page path entry same) low sound can h = h
+forked_event n s (recheck_same a p write long sequence page path entry) low sound can h = h
+forked_event n s (recheck_other a p write long sequence page path entry) low sound can h = h
 forked_event n s (read_mark a p write long sequence page entry mark) low sound can h = h
 forked_event n s (read_again a p write long sequence step now) low sound can h = h
 forked_event n s (drop_grab a p write long sequence f) low sound can h = h

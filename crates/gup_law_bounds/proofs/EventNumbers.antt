@@ -10,11 +10,12 @@ use Rattle.gup_plain.specs.Event.{page_numbers, words}
 use Rattle.gup_plain.specs.Put.{put, put2}
 use Rattle.gup_plain.specs.State.{born}
 use Rattle.gup_spec_events.specs.State.{CoreState, core_start, Taken, moving, forking, Counted, one, ForkStep, cleared, copying}
-use Rattle.gup_spec_events.specs.Event.{CoreEvent, Can, happens, bias_of, entry_of, taken_frames, is_writable, take_frame, fill, count_one, set_mark, upgrade, break_entry, put_entry, raise_flag, pin_page, make_handle, unpin_page, give_handle, take_handle, get_reference, put_reference, clear_entry, count_moved, place_frame, restore_entry, begin_fork, count_page, share_entry, share_mark, share_child, copy_word, place_child, pass_page, end_fork, fail_fork, put_child, fail_unborn, map_pages, lower_entry, protect_pages, drop_entry, discard_entry, add_table, take_out, reclaim, load, store, move_out, move_in, empty_mirror, fill_mirror, look, enter_walk, read_sequence, read_entry, grab_frame, miss_frame, recheck_same, recheck_other, read_mark, read_again, drop_grab, drop_last, drop_first, leave_walk}
+use Rattle.gup_spec_events.specs.Event.{CoreEvent, Can, happens, bias_of, entry_of, tree_in, taken_frames, is_writable, take_frame, fill, count_one, set_mark, upgrade, break_entry, put_entry, raise_flag, pin_page, make_handle, unpin_page, give_handle, take_handle, get_reference, put_reference, clear_entry, count_moved, place_frame, restore_entry, begin_fork, count_page, share_entry, share_mark, share_child, copy_word, place_child, pass_page, end_fork, fail_fork, put_child, fail_unborn, map_pages, lower_entry, protect_pages, drop_entry, discard_entry, add_table, take_out, reclaim, load, store, move_out, move_in, empty_mirror, fill_mirror, look, enter_walk, read_sequence, read_link, read_entry, grab_frame, miss_frame, recheck_above, recheck_same, recheck_other, read_mark, read_again, drop_grab, drop_last, drop_first, leave_walk}
 use Rattle.gup_law_base.specs.Sound.{IsSound, Moving, Forking, moving_of, forking_of, step_page}
 use Rattle.gup_law_base.proofs.Numbers.{few_below, apart_alone}
 use Rattle.gup_law_base.proofs.Rows.{at_either, at_longer, at_mapped, contains_at}
 use Rattle.gup_law_base.proofs.Lonely.{whole_counts, born_mapped}
+use Rattle.gup_law_walk.proofs.WalkTakes.{entry_there}
 
 -- pages of entries and of pins have numbers below 2^35, and a frame that is counted is one of the n of the machine
 pub record AreNumbered (n : ℕ) (s : CoreState) : Type 0 where
@@ -204,13 +205,15 @@ numbers_event n s (fill_mirror a m p page f writable) sound can h = numbers_same
 numbers_event n s (look a m word f value) sound can h = numbers_same n s (happens s (look a m word f value)) refl refl refl refl refl refl h
 numbers_event n s (enter_walk a p write long) sound can h = numbers_same n s (happens s (enter_walk a p write long)) refl refl refl refl refl refl h
 numbers_event n s (read_sequence a p write long sequence) sound can h = numbers_same n s (happens s (read_sequence a p write long sequence)) refl refl refl refl refl refl h
-numbers_event n s (read_entry a p write long sequence page was) sound can h = numbers_same n s (happens s (read_entry a p write long sequence page was)) refl refl refl refl refl refl h
-numbers_event n s (grab_frame a p write long sequence page entry) sound can h =
+numbers_event n s (read_link a p write long sequence page path next) sound can h = numbers_same n s (happens s (read_link a p write long sequence page path next)) refl refl refl refl refl refl h
+numbers_event n s (read_entry a p write long sequence page path was) sound can h = numbers_same n s (happens s (read_entry a p write long sequence page path was)) refl refl refl refl refl refl h
+numbers_event n s (grab_frame a p write long sequence page path entry) sound can h =
     record { size = h.size; entries = h.entries; taken = h.taken; pinned = h.pinned; frames = count_in n s h entry.frame (s.count entry.frame + bias_of s) (λ some. h.frames entry.frame can.1) }
-numbers_event n s (miss_frame a p write long sequence page entry) sound can h = numbers_same n s (happens s (miss_frame a p write long sequence page entry)) refl refl refl refl refl refl h
-numbers_event n s (recheck_same a p write long sequence page entry) sound can h =
-    record { size = h.size; entries = h.entries; taken = taken_in n s h a (s.taken a ++ pinned_page s p page entry write long ∷ []) (longer_in n s h a (pinned_page s p page entry write long) (h.entries p page entry can.1)); pinned = h.pinned; frames = h.frames }
-numbers_event n s (recheck_other a p write long sequence page entry) sound can h = numbers_same n s (happens s (recheck_other a p write long sequence page entry)) refl refl refl refl refl refl h
+numbers_event n s (miss_frame a p write long sequence page path entry) sound can h = numbers_same n s (happens s (miss_frame a p write long sequence page path entry)) refl refl refl refl refl refl h
+numbers_event n s (recheck_above a p write long sequence page path entry same) sound can h = numbers_same n s (happens s (recheck_above a p write long sequence page path entry same)) refl refl refl refl refl refl h
+numbers_event n s (recheck_same a p write long sequence page path entry) sound can h =
+    record { size = h.size; entries = h.entries; taken = taken_in n s h a (s.taken a ++ pinned_page s p page entry write long ∷ []) (longer_in n s h a (pinned_page s p page entry write long) (h.entries p page entry (entry_there (tree_in s p) path page entry can.1))); pinned = h.pinned; frames = h.frames }
+numbers_event n s (recheck_other a p write long sequence page path entry) sound can h = numbers_same n s (happens s (recheck_other a p write long sequence page path entry)) refl refl refl refl refl refl h
 numbers_event n s (read_mark a p write long sequence page entry mark) sound can h = numbers_same n s (happens s (read_mark a p write long sequence page entry mark)) refl refl refl refl refl refl h
 numbers_event n s (read_again a p write long sequence step now) sound can h = numbers_same n s (happens s (read_again a p write long sequence step now)) refl refl refl refl refl refl h
 numbers_event n s (drop_grab a p write long sequence f) sound can h =

@@ -7,7 +7,7 @@ use Rattle.gup_base.specs.declared.entry.Entry.{Entry}
 use Rattle.gup_base.specs.declared.entry.Rights.{Rights}
 use Rattle.gup_plain.specs.Put.{put, put2}
 use Rattle.gup_spec_events.specs.State.{CoreState, Taken, idle, Counted, ForkStep, WalkStep}
-use Rattle.gup_spec_events.specs.Event.{take_frame, fill, count_one, set_mark, upgrade, break_entry, put_entry, raise_flag, pin_page, make_handle, unpin_page, give_handle, take_handle, get_reference, put_reference, clear_entry, count_moved, place_frame, restore_entry, begin_fork, count_page, share_entry, share_mark, share_child, copy_word, pass_page, end_fork, fail_fork, put_child, fail_unborn, map_pages, lower_entry, protect_pages, drop_entry, discard_entry, add_table, take_out, reclaim, load, store, move_out, move_in, empty_mirror, fill_mirror, look, enter_walk, read_sequence, read_entry, grab_frame, miss_frame, recheck_same, recheck_other, read_mark, read_again, drop_grab, drop_last, drop_first, leave_walk}
+use Rattle.gup_spec_events.specs.Event.{take_frame, fill, count_one, set_mark, upgrade, break_entry, put_entry, raise_flag, pin_page, make_handle, unpin_page, give_handle, take_handle, get_reference, put_reference, clear_entry, count_moved, place_frame, restore_entry, begin_fork, count_page, share_entry, share_mark, share_child, copy_word, pass_page, end_fork, fail_fork, put_child, fail_unborn, map_pages, lower_entry, protect_pages, drop_entry, discard_entry, add_table, take_out, reclaim, load, store, move_out, move_in, empty_mirror, fill_mirror, look, enter_walk, read_sequence, read_link, read_entry, grab_frame, miss_frame, recheck_above, recheck_same, recheck_other, read_mark, read_again, drop_grab, drop_last, drop_first, leave_walk}
 use Rattle.gup_law_bounds.specs.Limits.{IsWithin}
 
 far : {X : Type 0} (n a b : ℕ) (x : X) (f : ℕ → X) → a < n → n ≤ b → put a x f b ≡ f b
@@ -208,24 +208,32 @@ pub within-read_sequence : (a p : ℕ) (write long : Bool) (sequence : ℕ) → 
 within-read_sequence a p write long sequence low-a =
     record { actor = λ s b away. (far 81 a b _ s.job low-a away, refl, refl, refl); process = λ s q away. (refl, λ g. refl); name = λ s i away. (refl, refl) }
 
-pub within-read_entry : (a p : ℕ) (write long : Bool) (sequence page : ℕ) (was : Option Entry) → a < 81 → IsWithin (read_entry a p write long sequence page was)
-within-read_entry a p write long sequence page was low-a =
+pub within-read_link : (a p : ℕ) (write long : Bool) (sequence page : ℕ) (path : List ℕ) (next : Option ℕ) → a < 81 → IsWithin (read_link a p write long sequence page path next)
+within-read_link a p write long sequence page path next low-a =
     record { actor = λ s b away. (far 81 a b _ s.job low-a away, refl, refl, refl); process = λ s q away. (refl, λ g. refl); name = λ s i away. (refl, refl) }
 
-pub within-grab_frame : (a p : ℕ) (write long : Bool) (sequence page : ℕ) (entry : Entry) → a < 81 → IsWithin (grab_frame a p write long sequence page entry)
-within-grab_frame a p write long sequence page entry low-a =
+pub within-read_entry : (a p : ℕ) (write long : Bool) (sequence page : ℕ) (path : List ℕ) (was : Option Entry) → a < 81 → IsWithin (read_entry a p write long sequence page path was)
+within-read_entry a p write long sequence page path was low-a =
     record { actor = λ s b away. (far 81 a b _ s.job low-a away, refl, refl, refl); process = λ s q away. (refl, λ g. refl); name = λ s i away. (refl, refl) }
 
-pub within-miss_frame : (a p : ℕ) (write long : Bool) (sequence page : ℕ) (entry : Entry) → a < 81 → IsWithin (miss_frame a p write long sequence page entry)
-within-miss_frame a p write long sequence page entry low-a =
+pub within-grab_frame : (a p : ℕ) (write long : Bool) (sequence page : ℕ) (path : List ℕ) (entry : Entry) → a < 81 → IsWithin (grab_frame a p write long sequence page path entry)
+within-grab_frame a p write long sequence page path entry low-a =
     record { actor = λ s b away. (far 81 a b _ s.job low-a away, refl, refl, refl); process = λ s q away. (refl, λ g. refl); name = λ s i away. (refl, refl) }
 
-pub within-recheck_same : (a p : ℕ) (write long : Bool) (sequence page : ℕ) (entry : Entry) → a < 81 → IsWithin (recheck_same a p write long sequence page entry)
-within-recheck_same a p write long sequence page entry low-a =
+pub within-miss_frame : (a p : ℕ) (write long : Bool) (sequence page : ℕ) (path : List ℕ) (entry : Entry) → a < 81 → IsWithin (miss_frame a p write long sequence page path entry)
+within-miss_frame a p write long sequence page path entry low-a =
+    record { actor = λ s b away. (far 81 a b _ s.job low-a away, refl, refl, refl); process = λ s q away. (refl, λ g. refl); name = λ s i away. (refl, refl) }
+
+pub within-recheck_above : (a p : ℕ) (write long : Bool) (sequence page : ℕ) (path : List ℕ) (entry : Entry) (same : Bool) → a < 81 → IsWithin (recheck_above a p write long sequence page path entry same)
+within-recheck_above a p write long sequence page path entry same low-a =
+    record { actor = λ s b away. (far 81 a b _ s.job low-a away, refl, refl, refl); process = λ s q away. (refl, λ g. refl); name = λ s i away. (refl, refl) }
+
+pub within-recheck_same : (a p : ℕ) (write long : Bool) (sequence page : ℕ) (path : List ℕ) (entry : Entry) → a < 81 → IsWithin (recheck_same a p write long sequence page path entry)
+within-recheck_same a p write long sequence page path entry low-a =
     record { actor = λ s b away. (far 81 a b _ s.job low-a away, refl, refl, far 81 a b _ s.taken low-a away); process = λ s q away. (refl, λ g. refl); name = λ s i away. (refl, refl) }
 
-pub within-recheck_other : (a p : ℕ) (write long : Bool) (sequence page : ℕ) (entry : Entry) → a < 81 → IsWithin (recheck_other a p write long sequence page entry)
-within-recheck_other a p write long sequence page entry low-a =
+pub within-recheck_other : (a p : ℕ) (write long : Bool) (sequence page : ℕ) (path : List ℕ) (entry : Entry) → a < 81 → IsWithin (recheck_other a p write long sequence page path entry)
+within-recheck_other a p write long sequence page path entry low-a =
     record { actor = λ s b away. (far 81 a b _ s.job low-a away, refl, refl, refl); process = λ s q away. (refl, λ g. refl); name = λ s i away. (refl, refl) }
 
 pub within-read_mark : (a p : ℕ) (write long : Bool) (sequence page : ℕ) (entry : Entry) (mark : Bool) → a < 81 → IsWithin (read_mark a p write long sequence page entry mark)

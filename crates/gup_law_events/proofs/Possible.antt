@@ -1,6 +1,6 @@
 -- A run of core events that can happen, so that the laws speak of something. Its parts are shown to happen whatever tables there
 -- are, if the page has four: so no part has to say where each table stands.
-use Rattle.std.proofs.Common.{◌≡◌, ℕ, ◌+◌, ◌<◌, ◌≤◌, nat_lt, Bool, true, false, [], ◌∷◌, ◌++◌, inl, inr, refl, ap, subst, ◌∙◌, arith}
+use Rattle.std.proofs.Common.{◌≡◌, ℕ, ◌+◌, ◌<◌, ◌≤◌, nat_lt, Bool, true, false, [], ◌∷◌, ◌++◌, inl, inr, refl, ap, sym, subst, ◌∙◌, arith}
 use Rattle.std.specs.Prelude.{Option, Some, None, IsSome, Contains}
 use Rattle.std.proofs.lemmas.Bool.Decides.{nat_tests}
 use Rattle.gup_base.specs.declared.entry.Entry.{Entry}
@@ -16,7 +16,8 @@ use Rattle.gup_spec_events.specs.State.{CoreState, core_start}
 use Rattle.gup_spec_events.specs.Invariant.{AllCan}
 use Rattle.gup_spec_events.proofs.Runs.{can_behind}
 use Rattle.gup_law_tables.proofs.TableRuns.{first_stand}
-use Rattle.gup_law_tables.proofs.FourTables.{with_tables, HasFour, bare_lacks, same_lacks, tables_there, four_can, lowest_detachable}
+use Rattle.gup_law_tables.proofs.FourTables.{with_tables, bare_lacks, same_lacks, tables_there, lowest_detachable}
+use Rattle.gup_law_events.proofs.FullPaths.{HasPath, path_can, ReadsDown, reads}
 use Rattle.gup_law_events.specs.Possible.{first_born, maps_one, adds_four, pins_one, shares_one, fails_one, one_run}
 
 few_pages : 7 + 1 ≤ page_numbers
@@ -73,10 +74,10 @@ maps_can : AllCan start maps_one
 maps_can = ((refl, (refl, refl), few_pages, (λ k inside. refl), omega arith), tt)
 
 -- the parts, whatever tables there are after process 0 has got four, then its child, and then that one's
-pins_can : (place : ℕ → ℕ → Option Place) (free : ℕ → Bool) → HasFour mapped place free 0 7 0 → AllCan (with_tables mapped place free) pins_one
-pins_can place free four =
+pins_by : (place : ℕ → ℕ → Option Place) (free : ℕ → Bool) → HasPath mapped place free 0 7 0 → ReadsDown (place 0) 7 0 → AllCan (with_tables mapped place free) pins_one
+pins_by place free four down =
     (tt, refl, omega arith, refl)
-    and_then (refl, (refl, refl), refl, refl, refl, refl, tables_there (with_tables mapped place free) 0 7 refl four.full)
+    and_then (refl, (refl, refl), refl, refl, refl, refl, tables_there (with_tables mapped place free) 0 7 refl four.four.full)
     and_then (refl, (refl, refl), refl, refl, refl)
     and_then (refl, refl, omega arith)
     and_then (refl, (true, refl), omega arith, refl)
@@ -93,9 +94,13 @@ pins_can place free four =
     and_then (refl, refl)
     and_then (refl, (refl, refl), refl, refl)
     and_then (refl, refl)
-    and_then (refl, refl, All-nil _)
+    and_then (refl, omega arith, down.root, All-nil _)
+    and_then (refl, omega arith, down.third, All-nil _)
+    and_then (refl, omega arith, down.second, All-nil _)
+    and_then (refl, refl, down.entry (Some (entry_of 3 true)), All-nil _)
     and_then (refl, λ none. omega (arith, none))
-    and_then (refl, refl)
+    and_then (refl, down.above)
+    and_then (refl, sym (down.entry (Some (entry_of 3 true))))
     and_then (refl, refl)
     and_then (refl, tt, refl)
     and_then refl
@@ -103,7 +108,10 @@ pins_can place free four =
     and_then (refl, refl)
     and_then (refl, (refl, refl), refl, refl)
     and_then (refl, refl)
-    and_then (refl, refl, All-nil _)
+    and_then (refl, omega arith, down.root, All-nil _)
+    and_then (refl, omega arith, down.third, All-nil _)
+    and_then (refl, omega arith, down.second, All-nil _)
+    and_then (refl, refl, down.entry (Some (entry_of 3 true)), All-nil _)
     and_then refl
     and_then (refl, tt, refl)
     and_then refl
@@ -115,33 +123,48 @@ pins_can place free four =
     and_then (refl, refl)
     and_then (refl, refl, (refl, refl), (refl, refl), refl, refl)
     and_then (refl, refl, refl, no_element 7, refl, refl)
-    and_then (refl, refl, All-nil _)
+    and_then (refl, omega arith, down.root, All-nil _)
+    and_then (refl, omega arith, down.third, All-nil _)
+    and_then (refl, omega arith, down.second, All-nil _)
+    and_then (refl, refl, down.entry (Some (entry_of 3 true)), All-nil _)
     and_then (refl, λ none. omega (arith, none))
-    and_then (refl, refl)
+    and_then (refl, down.above)
+    and_then (refl, sym (down.entry (Some (entry_of 3 true))))
     and_then (refl, refl)
     and_then (refl, tt, refl)
     and_then (refl, refl)
     and_then refl
-    and_then (refl, refl, All-nil _)
+    and_then (refl, omega arith, down.root, All-nil _)
+    and_then (refl, omega arith, down.third, All-nil _)
+    and_then (refl, omega arith, down.second, All-nil _)
+    and_then (refl, refl, down.entry (Some (entry_of 3 true)), All-nil _)
     and_then (refl, λ none. omega (arith, none))
     and_then (refl, refl, (λ m noted is at proc page. emptied m is))
-    and_then (refl, entries_apart)
+    and_then (refl, down.above)
+    and_then (refl, λ same. entries_apart (down.entry (Some (entry_of 3 false)) ∙ same))
     and_then refl
     and_then (refl, tt, refl)
     and_then refl
     and_then (refl, refl)
-    and_then (refl, refl, All-nil _)
+    and_then (refl, omega arith, down.root, All-nil _)
+    and_then (refl, omega arith, down.third, All-nil _)
+    and_then (refl, omega arith, down.second, All-nil _)
+    and_then (refl, refl, down.entry (Some (entry_of 3 false)), All-nil _)
     and_then (refl, λ none. omega (arith, none))
-    and_then (refl, refl)
+    and_then (refl, down.above)
+    and_then (refl, sym (down.entry (Some (entry_of 3 false))))
     and_then (refl, refl)
     and_then (refl, refl)
     and_then (refl, tt, refl)
     and_then refl
     and_then tt
 
-shares_can : (place1 place2 : ℕ → ℕ → Option Place) (free1 free2 : ℕ → Bool) → HasFour (pinned place1 free1) place2 free2 1 7 4 → AllCan (with_tables (pinned place1 free1) place2 free2) shares_one
+pins_can : (place : ℕ → ℕ → Option Place) (free : ℕ → Bool) → HasPath mapped place free 0 7 0 → AllCan (with_tables mapped place free) pins_one
+pins_can place free four = pins_by place free four (reads mapped place free 0 7 0 four)
+
+shares_can : (place1 place2 : ℕ → ℕ → Option Place) (free1 free2 : ℕ → Bool) → HasPath (pinned place1 free1) place2 free2 1 7 4 → AllCan (with_tables (pinned place1 free1) place2 free2) shares_one
 shares_can place1 place2 free1 free2 four =
-    (refl, refl, tables_there (with_tables (pinned place1 free1) place2 free2) 1 7 refl four.full)
+    (refl, refl, tables_there (with_tables (pinned place1 free1) place2 free2) 1 7 refl four.four.full)
     and_then (refl, all_done)
     and_then (tt, refl, omega arith, refl)
     and_then (refl, (refl, refl), refl, refl, refl, refl, refl, (λ is. refl), (λ m noted is at proc page. emptied m is))
@@ -169,7 +192,7 @@ shares_can place1 place2 free1 free2 four =
     and_then (refl, tt, refl, λ page. refl)
     and_then (refl, refl)
     and_then (tt, refl, omega arith, refl)
-    and_then (refl, (refl, refl), refl, refl, refl, refl, tables_there (with_tables (pinned place1 free1) place2 free2) 1 7 refl four.full)
+    and_then (refl, (refl, refl), refl, refl, refl, refl, tables_there (with_tables (pinned place1 free1) place2 free2) 1 7 refl four.four.full)
     and_then (refl, refl, (refl, refl), (refl, refl), refl, refl)
     and_then (refl, refl, refl, no_element 7, refl, refl)
     and_then (refl, refl, λ m noted is at proc page. emptied m is)
@@ -178,9 +201,9 @@ shares_can place1 place2 free1 free2 four =
 
 -- what is known when all three have got theirs
 record HaveTables (place1 place2 place3 : ℕ → ℕ → Option Place) (free1 free2 free3 : ℕ → Bool) : Type 0 where
-  first : HasFour mapped place1 free1 0 7 0
-  child : HasFour (pinned place1 free1) place2 free2 1 7 4
-  last : HasFour (shared place1 place2 free1 free2) place3 free3 4 7 8
+  first : HasPath mapped place1 free1 0 7 0
+  child : HasPath (pinned place1 free1) place2 free2 1 7 4
+  last : HasPath (shared place1 place2 free1 free2) place3 free3 4 7 8
 
 module _ (place1 place2 place3 : ℕ → ℕ → Option Place) (free1 free2 free3 : ℕ → Bool) (have : HaveTables place1 place2 place3 free1 free2 free3) where
   abbrev state : CoreState
@@ -188,19 +211,19 @@ module _ (place1 place2 place3 : ℕ → ℕ → Option Place) (free1 free2 free
 
   -- process 0 has the tables that it had first, and no entry
   kept : place3 0 ≡ place1 0
-  kept = have.last.others 0 (λ same. omega (arith, same)) ∙ have.child.others 0 (λ same. omega (arith, same))
+  kept = have.last.four.others 0 (λ same. omega (arith, same)) ∙ have.child.four.others 0 (λ same. omega (arith, same))
 
   bare : (page : ℕ) → state.entry 0 page ≡ None
   bare page = grind (arith, nat_tests)
 
   lowest_out : detachable (tree_in state 0) 7 ≡ Some 3
   lowest_out =
-      lowest_detachable (tree_in state 0) 7 3 (have.last.standing.trees 0) (same_lacks (with_tables mapped place1 free1) state 0 7 kept ∙ have.first.full)
-      (ap (λ (tables : ℕ → Option Place). tables 3) kept ∙ have.first.lowest) bare
+      lowest_detachable (tree_in state 0) 7 3 (have.last.four.standing.trees 0) (same_lacks (with_tables mapped place1 free1) state 0 7 kept ∙ have.first.four.full)
+      (ap (λ (tables : ℕ → Option Place). tables 3) kept ∙ have.first.four.lowest) bare
 
   fails_can : AllCan state fails_one
   fails_can =
-      (refl, refl, tables_there state 4 7 refl have.last.full)
+      (refl, refl, tables_there state 4 7 refl have.last.four.full)
       and_then (refl, tt, refl, (7, refl))
       and_then (refl, refl, given_back)
       and_then (refl, (refl, refl), (refl, refl), refl, refl, refl)
@@ -220,7 +243,7 @@ module _ (place1 place2 place3 : ℕ → ℕ → Option Place) (free1 free2 free
 pub they_can_happen : AllCan start one_run
 they_can_happen =
     can_behind start maps_one (adds_four 0 0 0 ++ (pins_one ++ (adds_four 0 1 4 ++ (shares_one ++ (adds_four 1 4 8 ++ fails_one))))) maps_can
-    (four_can 0 0 7 few_pages mapped 0 (pins_one ++ (adds_four 0 1 4 ++ (shares_one ++ (adds_four 1 4 8 ++ fails_one))))
+    (path_can 0 0 7 few_pages mapped 0 (pins_one ++ (adds_four 0 1 4 ++ (shares_one ++ (adds_four 1 4 8 ++ fails_one))))
     (first_stand 2 8 12 true first_born few_tables)
     (inl (refl, (refl, refl)))
     refl
@@ -228,13 +251,13 @@ they_can_happen =
     (λ k less. free_first (0 + k) (omega (arith, less)))
     (λ place1 free1 four1.
     can_behind (with_tables mapped place1 free1) pins_one (adds_four 0 1 4 ++ (shares_one ++ (adds_four 1 4 8 ++ fails_one))) (pins_can place1 free1 four1)
-    (four_can 0 1 7 few_pages (pinned place1 free1) 4 (shares_one ++ (adds_four 1 4 8 ++ fails_one)) four1.standing (inr (inr refl)) refl
-    (bare_lacks (pinned place1 free1) 1 7 (λ table. ap (λ (tables : ℕ → Option Place). tables table) (four1.others 1 (λ same. omega (arith, same)))))
-    (λ k less. four1.others_free (4 + k) (omega arith) ∙ free_first (4 + k) (omega (arith, less)))
+    (path_can 0 1 7 few_pages (pinned place1 free1) 4 (shares_one ++ (adds_four 1 4 8 ++ fails_one)) four1.four.standing (inr (inr refl)) refl
+    (bare_lacks (pinned place1 free1) 1 7 (λ table. ap (λ (tables : ℕ → Option Place). tables table) (four1.four.others 1 (λ same. omega (arith, same)))))
+    (λ k less. four1.four.others_free (4 + k) (omega arith) ∙ free_first (4 + k) (omega (arith, less)))
     (λ place2 free2 four2.
     can_behind (with_tables (pinned place1 free1) place2 free2) shares_one (adds_four 1 4 8 ++ fails_one) (shares_can place1 place2 free1 free2 four2)
-    (four_can 1 4 7 few_pages (shared place1 place2 free1 free2) 8 fails_one four2.standing (inr (inr refl)) refl
+    (path_can 1 4 7 few_pages (shared place1 place2 free1 free2) 8 fails_one four2.four.standing (inr (inr refl)) refl
     (bare_lacks (shared place1 place2 free1 free2) 4 7
-    (λ table. ap (λ (tables : ℕ → Option Place). tables table) (four2.others 4 (λ same. omega (arith, same)) ∙ four1.others 4 (λ same. omega (arith, same)))))
-    (λ k less. four2.others_free (8 + k) (omega arith) ∙ four1.others_free (8 + k) (omega arith) ∙ free_first (8 + k) (omega (arith, less)))
+    (λ table. ap (λ (tables : ℕ → Option Place). tables table) (four2.four.others 4 (λ same. omega (arith, same)) ∙ four1.four.others 4 (λ same. omega (arith, same)))))
+    (λ k less. four2.four.others_free (8 + k) (omega arith) ∙ four1.four.others_free (8 + k) (omega arith) ∙ free_first (8 + k) (omega (arith, less)))
     (λ place3 free3 four3. fails_can place1 place2 place3 free1 free2 free3 (record { first = four1; child = four2; last = four3 })))))))

@@ -6,7 +6,7 @@ use Rattle.gup_base.specs.declared.entry.Entry.{Entry}
 use Rattle.gup_base.specs.declared.entry.Rights.{Rights}
 use Rattle.gup_base.specs.declared.entry.Rights.TheVariants.{R, RW}
 use Rattle.gup_plain.specs.State.{born, failed}
-use Rattle.gup_spec_events.specs.State.{CoreState, Taken, Counted, one, Job, idle, marking, moving, forking, walking, ForkStep, between, counted, lowered, cleared, copying, failing, WalkStep, entered, ready, read, grabbed, rechecked, differed, refused, stopped, dropping, over}
+use Rattle.gup_spec_events.specs.State.{CoreState, Taken, Counted, one, Job, idle, marking, moving, forking, walking, ForkStep, between, counted, lowered, cleared, copying, failing, WalkStep, entered, ready, reading, read, grabbed, rechecked, differed, refused, stopped, dropping, over}
 use Rattle.gup_spec_events.specs.Event.{bias, is_odd}
 use Rattle.gup_spec_events.specs.Invariant.{HasCleared, IsEntry, Names, IsSettled, IsExclusive, IsSharing, IsUndisturbed, IsParted, IsUncopied, StandsFor, IsAsPinned, AwaitsMark, IsWalked, CountsWalks, AreNormal, Holds, frame_of, is_unsettled, walked_process}
 use Rattle.gup_law_base.specs.Sound.{View, Moving, Forking, Walking, moving_of, forking_of, walking_of, walk_process, is_open, is_failing, unkept, shared_page, IsUncopiedBy, IsSoundBy}
@@ -350,8 +350,9 @@ module _ (v : View) (s : CoreState) (h : IsSoundBy v s) where
       go refused still past = (tt, omega (arith, within, past))
       go entered still past = absurd (past (omega (arith, within)))
       go ready still past = absurd (past (omega (arith, within)))
-      go (read page e) still past = absurd (past (omega (arith, within)))
-      go (grabbed page e) still past = absurd (past (omega (arith, within)))
+      go (reading page path) still past = absurd (past (omega (arith, within)))
+      go (read page path e) still past = absurd (past (omega (arith, within)))
+      go (grabbed page path e) still past = absurd (past (omega (arith, within)))
       go (differed f) still past = absurd (past (omega (arith, within)))
       go stopped still past = absurd (past (omega (arith, within)))
       go dropping still past = absurd (past (omega (arith, within)))

@@ -6,7 +6,7 @@ use Rattle.gup_base.specs.declared.entry.Allowed.TheVariants.{Any, Only}
 use Rattle.gup_base.specs.declared.entry.Rights.TheVariants.{RW}
 use Rattle.gup_base.specs.declared.entry.Zone.TheVariants.{Normal}
 use Rattle.gup_spec_events.specs.State.{Taken, more, between, ready, stopped}
-use Rattle.gup_spec_events.specs.Event.{CoreEvent, entry_of, map_pages, take_frame, fill, upgrade, store, load, fill_mirror, look, empty_mirror, raise_flag, pin_page, make_handle, move_in, move_out, give_handle, take_handle, unpin_page, begin_fork, count_page, share_entry, share_mark, share_child, end_fork, break_entry, put_entry, count_one, set_mark, clear_entry, count_moved, place_frame, get_reference, restore_entry, put_reference, lower_entry, protect_pages, drop_entry, discard_entry, add_table, take_out, reclaim, pass_page, fail_fork, fail_unborn, put_child, copy_word, enter_walk, read_sequence, read_entry, grab_frame, miss_frame, recheck_same, recheck_other, read_mark, read_again, drop_grab, drop_last, drop_first, leave_walk}
+use Rattle.gup_spec_events.specs.Event.{CoreEvent, entry_of, map_pages, take_frame, fill, upgrade, store, load, fill_mirror, look, empty_mirror, raise_flag, pin_page, make_handle, move_in, move_out, give_handle, take_handle, unpin_page, begin_fork, count_page, share_entry, share_mark, share_child, end_fork, break_entry, put_entry, count_one, set_mark, clear_entry, count_moved, place_frame, get_reference, restore_entry, put_reference, lower_entry, protect_pages, drop_entry, discard_entry, add_table, take_out, reclaim, pass_page, fail_fork, fail_unborn, put_child, copy_word, enter_walk, read_sequence, read_link, read_entry, grab_frame, miss_frame, recheck_above, recheck_same, recheck_other, read_mark, read_again, drop_grab, drop_last, drop_first, leave_walk}
 
 abbrev pub first_born : ℕ → Bool
 first_born p = p == 0
@@ -23,7 +23,8 @@ maps_one = map_pages 0 0 7 1 RW ∷ []
 abbrev pub adds_four : (a p first : ℕ) → List CoreEvent
 adds_four a p first = add_table a p 7 first ∷ add_table a p 7 (first + 1) ∷ add_table a p 7 (first + 2) ∷ add_table a p 7 (first + 3) ∷ []
 
--- it is filled, pinned and walked, and a fork into process 1 lowers its entry
+-- It is filled, pinned and walked, and a fork into process 1 lowers its entry. A walk reads down from table 0, the root, by 1 and 2
+-- to 3, the last one.
 abbrev pub pins_one : List CoreEvent
 pins_one =
     take_frame 0 3
@@ -44,9 +45,13 @@ pins_one =
     ∷ unpin_page 2 0 3 []
     ∷ enter_walk 0 0 true true
     ∷ read_sequence 0 0 true true 0
-    ∷ read_entry 0 0 true true 0 7 (Some (entry_of 3 true))
-    ∷ grab_frame 0 0 true true 0 7 (entry_of 3 true)
-    ∷ recheck_same 0 0 true true 0 7 (entry_of 3 true)
+    ∷ read_link 0 0 true true 0 7 [] (Some 1)
+    ∷ read_link 0 0 true true 0 7 (1 ∷ []) (Some 2)
+    ∷ read_link 0 0 true true 0 7 (2 ∷ 1 ∷ []) (Some 3)
+    ∷ read_entry 0 0 true true 0 7 (3 ∷ 2 ∷ 1 ∷ []) (Some (entry_of 3 true))
+    ∷ grab_frame 0 0 true true 0 7 (3 ∷ 2 ∷ 1 ∷ []) (entry_of 3 true)
+    ∷ recheck_above 0 0 true true 0 7 (3 ∷ 2 ∷ 1 ∷ []) (entry_of 3 true) true
+    ∷ recheck_same 0 0 true true 0 7 (3 ∷ 2 ∷ 1 ∷ []) (entry_of 3 true)
     ∷ read_mark 0 0 true true 0 7 (entry_of 3 true) true
     ∷ read_again 0 0 true true 0 ready 0
     ∷ leave_walk 0 0 true true 0
@@ -54,8 +59,11 @@ pins_one =
     ∷ unpin_page 0 2 3 []
     ∷ enter_walk 4 0 true false
     ∷ read_sequence 4 0 true false 0
-    ∷ read_entry 4 0 true false 0 7 (Some (entry_of 3 true))
-    ∷ miss_frame 4 0 true false 0 7 (entry_of 3 true)
+    ∷ read_link 4 0 true false 0 7 [] (Some 1)
+    ∷ read_link 4 0 true false 0 7 (1 ∷ []) (Some 2)
+    ∷ read_link 4 0 true false 0 7 (2 ∷ 1 ∷ []) (Some 3)
+    ∷ read_entry 4 0 true false 0 7 (3 ∷ 2 ∷ 1 ∷ []) (Some (entry_of 3 true))
+    ∷ miss_frame 4 0 true false 0 7 (3 ∷ 2 ∷ 1 ∷ []) (entry_of 3 true)
     ∷ read_again 4 0 true false 0 stopped 0
     ∷ leave_walk 4 0 true false 0
     ∷ enter_walk 4 0 true false
@@ -66,24 +74,36 @@ pins_one =
     ∷ read_sequence 6 0 false false 0
     ∷ begin_fork 0 0 1
     ∷ count_page 0 0 1 [] 7 (entry_of 3 true) false
-    ∷ read_entry 4 0 true false 0 7 (Some (entry_of 3 true))
-    ∷ grab_frame 4 0 true false 0 7 (entry_of 3 true)
-    ∷ recheck_same 4 0 true false 0 7 (entry_of 3 true)
+    ∷ read_link 4 0 true false 0 7 [] (Some 1)
+    ∷ read_link 4 0 true false 0 7 (1 ∷ []) (Some 2)
+    ∷ read_link 4 0 true false 0 7 (2 ∷ 1 ∷ []) (Some 3)
+    ∷ read_entry 4 0 true false 0 7 (3 ∷ 2 ∷ 1 ∷ []) (Some (entry_of 3 true))
+    ∷ grab_frame 4 0 true false 0 7 (3 ∷ 2 ∷ 1 ∷ []) (entry_of 3 true)
+    ∷ recheck_above 4 0 true false 0 7 (3 ∷ 2 ∷ 1 ∷ []) (entry_of 3 true) true
+    ∷ recheck_same 4 0 true false 0 7 (3 ∷ 2 ∷ 1 ∷ []) (entry_of 3 true)
     ∷ read_mark 4 0 true false 0 7 (entry_of 3 true) true
     ∷ read_again 4 0 true false 0 ready 1
     ∷ drop_first 4 0 true false 0 (taken_page true) []
     ∷ leave_walk 4 0 true false 0
-    ∷ read_entry 5 0 true false 0 7 (Some (entry_of 3 true))
-    ∷ grab_frame 5 0 true false 0 7 (entry_of 3 true)
+    ∷ read_link 5 0 true false 0 7 [] (Some 1)
+    ∷ read_link 5 0 true false 0 7 (1 ∷ []) (Some 2)
+    ∷ read_link 5 0 true false 0 7 (2 ∷ 1 ∷ []) (Some 3)
+    ∷ read_entry 5 0 true false 0 7 (3 ∷ 2 ∷ 1 ∷ []) (Some (entry_of 3 true))
+    ∷ grab_frame 5 0 true false 0 7 (3 ∷ 2 ∷ 1 ∷ []) (entry_of 3 true)
     ∷ share_entry 0 0 1 [] 7 3 true
-    ∷ recheck_other 5 0 true false 0 7 (entry_of 3 true)
+    ∷ recheck_above 5 0 true false 0 7 (3 ∷ 2 ∷ 1 ∷ []) (entry_of 3 true) true
+    ∷ recheck_other 5 0 true false 0 7 (3 ∷ 2 ∷ 1 ∷ []) (entry_of 3 true)
     ∷ drop_grab 5 0 true false 0 3
     ∷ read_again 5 0 true false 0 stopped 1
     ∷ leave_walk 5 0 true false 0
     ∷ share_mark 0 0 1 [] 7 3 false
-    ∷ read_entry 6 0 false false 0 7 (Some (entry_of 3 false))
-    ∷ grab_frame 6 0 false false 0 7 (entry_of 3 false)
-    ∷ recheck_same 6 0 false false 0 7 (entry_of 3 false)
+    ∷ read_link 6 0 false false 0 7 [] (Some 1)
+    ∷ read_link 6 0 false false 0 7 (1 ∷ []) (Some 2)
+    ∷ read_link 6 0 false false 0 7 (2 ∷ 1 ∷ []) (Some 3)
+    ∷ read_entry 6 0 false false 0 7 (3 ∷ 2 ∷ 1 ∷ []) (Some (entry_of 3 false))
+    ∷ grab_frame 6 0 false false 0 7 (3 ∷ 2 ∷ 1 ∷ []) (entry_of 3 false)
+    ∷ recheck_above 6 0 false false 0 7 (3 ∷ 2 ∷ 1 ∷ []) (entry_of 3 false) true
+    ∷ recheck_same 6 0 false false 0 7 (3 ∷ 2 ∷ 1 ∷ []) (entry_of 3 false)
     ∷ read_mark 6 0 false false 0 7 (entry_of 3 false) false
     ∷ drop_last 6 0 false false 0 [] (taken_page false)
     ∷ read_again 6 0 false false 0 stopped 1

@@ -4,7 +4,7 @@ use Rattle.std.specs.Prelude.{Some}
 use Rattle.std.proofs.lemmas.Bool.Decides.{nat_tests}
 use Rattle.gup_base.specs.declared.entry.Entry.{Entry}
 use Rattle.gup_plain.specs.Put.{put}
-use Rattle.gup_spec_events.specs.State.{CoreState, WalkStep, entered, ready, read, grabbed, rechecked, differed, refused, stopped, dropping, over}
+use Rattle.gup_spec_events.specs.State.{CoreState, WalkStep, entered, ready, reading, read, grabbed, rechecked, differed, refused, stopped, dropping, over}
 use Rattle.gup_spec_events.specs.Invariant.{is_inside}
 use Rattle.gup_law_base.specs.Sound.{View, rechecked_entry, IsSoundBy}
 use Rattle.gup_law_base.proofs.Clauses.{WalkBelow, WalkOwn, WalkUnowned, WalkKept, WalkWritable}
@@ -14,8 +14,9 @@ pub rechecked_inside : (step : WalkStep) (e : Entry) â†’ rechecked_entry step â‰
 rechecked_inside (rechecked page d) e is = refl
 rechecked_inside entered e is = absurd (cc)
 rechecked_inside ready e is = absurd (cc)
-rechecked_inside (read page d) e is = absurd (cc)
-rechecked_inside (grabbed page d) e is = absurd (cc)
+rechecked_inside (reading page path) e is = absurd (cc)
+rechecked_inside (read page path d) e is = absurd (cc)
+rechecked_inside (grabbed page path d) e is = absurd (cc)
 rechecked_inside (differed f) e is = absurd (cc)
 rechecked_inside refused e is = absurd (cc)
 rechecked_inside stopped e is = absurd (cc)

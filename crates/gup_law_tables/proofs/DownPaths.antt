@@ -8,12 +8,12 @@ use Rattle.gup_law_tables.specs.Standing.{IsTree}
 use Rattle.gup_law_tables.specs.Down.{IsDown}
 use Rattle.gup_law_tables.proofs.Trees.{on_it, up}
 
-module _ (v : TreeValue) (tree : IsTree v.place) (page : ℕ) where
-  -- a table of the path stands where it is found
-  stands : (level table : ℕ) → table_at v.place (on_path level page) ≡ Some table → is_at (on_path level page) (v.place table) ≡ true
-  stands level table at =
-      ap (is_at (on_path level page)) ((at_some v.place (on_path level page) table at).1) ∙ is_at_own (on_path level page)
+-- a table of the path stands where it is found
+pub stands_there : (v : TreeValue) (page level table : ℕ) → table_at v.place (on_path level page) ≡ Some table → is_at (on_path level page) (v.place table) ≡ true
+stands_there v page level table at =
+    ap (is_at (on_path level page)) ((at_some v.place (on_path level page) table at).1) ∙ is_at_own (on_path level page)
 
+module _ (v : TreeValue) (tree : IsTree v.place) (page : ℕ) where
   -- below a missing table there is none
   none_below : (level table : ℕ) → level < 4 → table_at v.place (on_path level page) ≡ Some table → table_at v.place (on_path (level + 1) page) ≡ None → ⊥
   none_below level table lower there none =
@@ -34,26 +34,26 @@ module _ (v : TreeValue) (tree : IsTree v.place) (page : ℕ) where
   down : (o1 o2 o3 : Option ℕ) → table_at v.place (on_path 1 page) ≡ o1 → table_at v.place (on_path 2 page) ≡ o2 → table_at v.place (on_path 3 page) ≡ o3 → IsDown v page (and_table o1 (and_table o2 (and_table o3 [])))
   down None None None at1 at2 at3 = record { leads = tt; ends = at3; reads = λ full. no_entry at1 full }
   down None None (Some third) at1 at2 at3 =
-      let there = stands 3 third at3 in
+      let there = stands_there v page 3 third at3 in
       record {
         leads = (at3, tt);
         ends = ap (λ (b : Bool). if b && true then table_at v.place (on_path 2 page) else None) there ∙ at2;
         reads = λ full. ap (λ (b : Bool). if b && false then v.entry page else None) there ∙ no_entry at1 full;
       }
   down None (Some second) (Some third) at1 at2 at3 =
-      let there = stands 2 second at2 in
+      let there = stands_there v page 2 second at2 in
       record {
-        leads = (ap (λ (b : Bool). if b && true then table_at v.place (on_path 2 page) else None) (stands 3 third at3) ∙ at2, (at3, tt));
+        leads = (ap (λ (b : Bool). if b && true then table_at v.place (on_path 2 page) else None) (stands_there v page 3 third at3) ∙ at2, (at3, tt));
         ends = ap (λ (b : Bool). if b && true then table_at v.place (on_path 1 page) else None) there ∙ at1;
         reads = λ full. ap (λ (b : Bool). if b && false then v.entry page else None) there ∙ no_entry at1 full;
       }
   down (Some last) (Some second) (Some third) at1 at2 at3 =
-      let there = stands 1 last at1 in
+      let there = stands_there v page 1 last at1 in
       record {
         leads = (
-          ap (λ (b : Bool). if b && true then table_at v.place (on_path 1 page) else None) (stands 2 second at2) ∙ at1,
+          ap (λ (b : Bool). if b && true then table_at v.place (on_path 1 page) else None) (stands_there v page 2 second at2) ∙ at1,
           (
-            ap (λ (b : Bool). if b && true then table_at v.place (on_path 2 page) else None) (stands 3 third at3) ∙ at2,
+            ap (λ (b : Bool). if b && true then table_at v.place (on_path 2 page) else None) (stands_there v page 3 third at3) ∙ at2,
             (at3, tt),
           ),
         );

@@ -7,7 +7,7 @@ use Rattle.gup_plain.specs.Event.{page_numbers}
 use Rattle.gup_plain.specs.Put.{put, put2}
 use Rattle.gup_spec_tables.specs.Tables.{on_path, lacks, detachable}
 use Rattle.gup_spec_events.specs.State.{CoreState}
-use Rattle.gup_spec_events.specs.Event.{CoreEvent, Can, happens, tree_in, take_frame, fill, count_one, set_mark, upgrade, break_entry, put_entry, raise_flag, pin_page, make_handle, unpin_page, give_handle, take_handle, get_reference, put_reference, clear_entry, count_moved, place_frame, restore_entry, begin_fork, count_page, share_entry, share_mark, share_child, copy_word, place_child, pass_page, end_fork, fail_fork, put_child, fail_unborn, map_pages, lower_entry, protect_pages, drop_entry, discard_entry, add_table, take_out, reclaim, load, store, move_out, move_in, empty_mirror, fill_mirror, look, enter_walk, read_sequence, read_entry, grab_frame, miss_frame, recheck_same, recheck_other, read_mark, read_again, drop_grab, drop_last, drop_first, leave_walk}
+use Rattle.gup_spec_events.specs.Event.{CoreEvent, Can, happens, tree_in, take_frame, fill, count_one, set_mark, upgrade, break_entry, put_entry, raise_flag, pin_page, make_handle, unpin_page, give_handle, take_handle, get_reference, put_reference, clear_entry, count_moved, place_frame, restore_entry, begin_fork, count_page, share_entry, share_mark, share_child, copy_word, place_child, pass_page, end_fork, fail_fork, put_child, fail_unborn, map_pages, lower_entry, protect_pages, drop_entry, discard_entry, add_table, take_out, reclaim, load, store, move_out, move_in, empty_mirror, fill_mirror, look, enter_walk, read_sequence, read_link, read_entry, grab_frame, miss_frame, recheck_above, recheck_same, recheck_other, read_mark, read_again, drop_grab, drop_last, drop_first, leave_walk}
 use Rattle.gup_law_tables.specs.Standing.{TablesStand}
 use Rattle.gup_law_tables.proofs.Owners.{unplaced}
 use Rattle.gup_law_tables.proofs.Entries.{full_added, full_removed}
@@ -80,11 +80,13 @@ entries_kept s (fill_mirror a m p on f writable) q page e stand can mapped full 
 entries_kept s (look a m word f value) q page e stand can mapped full = full
 entries_kept s (enter_walk a p write long) q page e stand can mapped full = full
 entries_kept s (read_sequence a p write long sequence) q page e stand can mapped full = full
-entries_kept s (read_entry a p write long sequence on was) q page e stand can mapped full = full
-entries_kept s (grab_frame a p write long sequence on was) q page e stand can mapped full = full
-entries_kept s (miss_frame a p write long sequence on was) q page e stand can mapped full = full
-entries_kept s (recheck_same a p write long sequence on was) q page e stand can mapped full = full
-entries_kept s (recheck_other a p write long sequence on was) q page e stand can mapped full = full
+entries_kept s (read_link a p write long sequence on path next) q page e stand can mapped full = full
+entries_kept s (read_entry a p write long sequence on path was) q page e stand can mapped full = full
+entries_kept s (grab_frame a p write long sequence on path was) q page e stand can mapped full = full
+entries_kept s (miss_frame a p write long sequence on path was) q page e stand can mapped full = full
+entries_kept s (recheck_above a p write long sequence on path was same) q page e stand can mapped full = full
+entries_kept s (recheck_same a p write long sequence on path was) q page e stand can mapped full = full
+entries_kept s (recheck_other a p write long sequence on path was) q page e stand can mapped full = full
 entries_kept s (read_mark a p write long sequence on was mark) q page e stand can mapped full = full
 entries_kept s (read_again a p write long sequence step now) q page e stand can mapped full = full
 entries_kept s (drop_grab a p write long sequence f) q page e stand can mapped full = full

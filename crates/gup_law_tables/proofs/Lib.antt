@@ -11,3 +11,5 @@ pub mod KeptPaths
 pub mod Paths
 pub mod FourTables
 pub mod DownPaths
+pub mod ReadDown
+pub mod InsideTables

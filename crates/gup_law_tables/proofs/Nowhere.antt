@@ -6,7 +6,7 @@ use Rattle.gup_plain.specs.Put.{put, put2}
 use Rattle.gup_spec_tables.specs.declared.place.Place.{Place}
 use Rattle.gup_spec_tables.specs.Tables.{on_path, lacks, detachable, is_among}
 use Rattle.gup_spec_events.specs.State.{CoreState, core_start}
-use Rattle.gup_spec_events.specs.Event.{CoreEvent, Can, happens, run, tree_in, take_frame, fill, count_one, set_mark, upgrade, break_entry, put_entry, raise_flag, pin_page, make_handle, unpin_page, give_handle, take_handle, get_reference, put_reference, clear_entry, count_moved, place_frame, restore_entry, begin_fork, count_page, share_entry, share_mark, share_child, copy_word, place_child, pass_page, end_fork, fail_fork, put_child, fail_unborn, map_pages, lower_entry, protect_pages, drop_entry, discard_entry, add_table, take_out, reclaim, load, store, move_out, move_in, empty_mirror, fill_mirror, look, enter_walk, read_sequence, read_entry, grab_frame, miss_frame, recheck_same, recheck_other, read_mark, read_again, drop_grab, drop_last, drop_first, leave_walk}
+use Rattle.gup_spec_events.specs.Event.{CoreEvent, Can, happens, run, tree_in, take_frame, fill, count_one, set_mark, upgrade, break_entry, put_entry, raise_flag, pin_page, make_handle, unpin_page, give_handle, take_handle, get_reference, put_reference, clear_entry, count_moved, place_frame, restore_entry, begin_fork, count_page, share_entry, share_mark, share_child, copy_word, place_child, pass_page, end_fork, fail_fork, put_child, fail_unborn, map_pages, lower_entry, protect_pages, drop_entry, discard_entry, add_table, take_out, reclaim, load, store, move_out, move_in, empty_mirror, fill_mirror, look, enter_walk, read_sequence, read_link, read_entry, grab_frame, miss_frame, recheck_above, recheck_same, recheck_other, read_mark, read_again, drop_grab, drop_last, drop_first, leave_walk}
 use Rattle.gup_spec_events.specs.Invariant.{AllCan}
 use Rattle.gup_tables.proofs.Places.{put_same, put_other}
 use Rattle.gup_law_tables.specs.Standing.{has, IsSomewhere}
@@ -107,11 +107,13 @@ not_made s (fill_mirror a m p page f writable) other can is = is
 not_made s (look a m word f value) other can is = is
 not_made s (enter_walk a p write long) other can is = is
 not_made s (read_sequence a p write long sequence) other can is = is
-not_made s (read_entry a p write long sequence page was) other can is = is
-not_made s (grab_frame a p write long sequence page entry) other can is = is
-not_made s (miss_frame a p write long sequence page entry) other can is = is
-not_made s (recheck_same a p write long sequence page entry) other can is = is
-not_made s (recheck_other a p write long sequence page entry) other can is = is
+not_made s (read_link a p write long sequence page path next) other can is = is
+not_made s (read_entry a p write long sequence page path was) other can is = is
+not_made s (grab_frame a p write long sequence page path entry) other can is = is
+not_made s (miss_frame a p write long sequence page path entry) other can is = is
+not_made s (recheck_above a p write long sequence page path entry same) other can is = is
+not_made s (recheck_same a p write long sequence page path entry) other can is = is
+not_made s (recheck_other a p write long sequence page path entry) other can is = is
 not_made s (read_mark a p write long sequence page entry mark) other can is = is
 not_made s (read_again a p write long sequence step now) other can is = is
 not_made s (drop_grab a p write long sequence f) other can is = is

@@ -10,7 +10,7 @@ use Rattle.gup_plain.specs.Put.{put, put2}
 use Rattle.gup_spec_tables.specs.declared.place.Place.{Place}
 use Rattle.gup_spec_tables.specs.Tables.{on_path, lacks, detachable}
 use Rattle.gup_spec_events.specs.State.{CoreState, core_start, Job, idle, marking, moving, forking, walking, Counted, unread, one, between, counted, lowered, cleared, copying, failing, entered, ready, grabbed, rechecked, differed, refused, stopped, over}
-use Rattle.gup_spec_events.specs.Event.{CoreEvent, Can, happens, tree_in, has_tables, MayShape, child_of, AreUnlocked, entry_of, counted_as, is_writable, is_odd, step_read, step_left, take_frame, fill, count_one, set_mark, upgrade, break_entry, put_entry, raise_flag, pin_page, make_handle, unpin_page, give_handle, take_handle, get_reference, put_reference, clear_entry, count_moved, place_frame, restore_entry, begin_fork, count_page, share_entry, share_mark, share_child, copy_word, place_child, pass_page, end_fork, fail_fork, put_child, fail_unborn, map_pages, lower_entry, protect_pages, drop_entry, discard_entry, add_table, take_out, reclaim, load, store, move_out, move_in, empty_mirror, fill_mirror, look, enter_walk, read_sequence, read_entry, grab_frame, miss_frame, recheck_same, recheck_other, read_mark, read_again, drop_grab, drop_last, drop_first, leave_walk}
+use Rattle.gup_spec_events.specs.Event.{CoreEvent, Can, happens, tree_in, has_tables, MayShape, child_of, AreUnlocked, entry_of, counted_as, is_writable, is_odd, step_read, step_led, step_left, take_frame, fill, count_one, set_mark, upgrade, break_entry, put_entry, raise_flag, pin_page, make_handle, unpin_page, give_handle, take_handle, get_reference, put_reference, clear_entry, count_moved, place_frame, restore_entry, begin_fork, count_page, share_entry, share_mark, share_child, copy_word, place_child, pass_page, end_fork, fail_fork, put_child, fail_unborn, map_pages, lower_entry, protect_pages, drop_entry, discard_entry, add_table, take_out, reclaim, load, store, move_out, move_in, empty_mirror, fill_mirror, look, enter_walk, read_sequence, read_link, read_entry, grab_frame, miss_frame, recheck_above, recheck_same, recheck_other, read_mark, read_again, drop_grab, drop_last, drop_first, leave_walk}
 use Rattle.gup_tables.proofs.Places.{put_same, put_other}
 use Rattle.gup_law_base.specs.Sound.{View, Moving, Forking, IsSound, IsSoundBy, moving_of, forking_of}
 use Rattle.gup_law_base.proofs.Children.{no_child}
@@ -202,11 +202,13 @@ paths_stand s (fill_mirror a m p on f writable) sound stand have can = have
 paths_stand s (look a m word f value) sound stand have can = have
 paths_stand s (enter_walk a p write long) sound stand have can = λ needs. working (have needs) a (walking p write long 0 entered) refl
 paths_stand s (read_sequence a p write long sequence) sound stand have can = λ needs. working (have needs) a (walking p write long sequence (if is_odd sequence then over else ready)) refl
-paths_stand s (read_entry a p write long sequence on was) sound stand have can = λ needs. working (have needs) a (walking p write long sequence (step_read s write long on was)) refl
-paths_stand s (grab_frame a p write long sequence on was) sound stand have can = λ needs. working (have needs) a (walking p write long sequence (grabbed on was)) refl
-paths_stand s (miss_frame a p write long sequence on was) sound stand have can = λ needs. working (have needs) a (walking p write long sequence stopped) refl
-paths_stand s (recheck_same a p write long sequence on was) sound stand have can = λ needs. working (have needs) a (walking p write long sequence (rechecked on was)) refl
-paths_stand s (recheck_other a p write long sequence on was) sound stand have can = λ needs. working (have needs) a (walking p write long sequence (differed was.frame)) refl
+paths_stand s (read_link a p write long sequence on path next) sound stand have can = λ needs. working (have needs) a (walking p write long sequence (step_led on path next)) refl
+paths_stand s (read_entry a p write long sequence on path was) sound stand have can = λ needs. working (have needs) a (walking p write long sequence (step_read s write long on path was)) refl
+paths_stand s (grab_frame a p write long sequence on path was) sound stand have can = λ needs. working (have needs) a (walking p write long sequence (grabbed on path was)) refl
+paths_stand s (miss_frame a p write long sequence on path was) sound stand have can = λ needs. working (have needs) a (walking p write long sequence stopped) refl
+paths_stand s (recheck_above a p write long sequence on path was same) sound stand have can = λ needs. working (have needs) a (walking p write long sequence (if same then grabbed on path was else differed was.frame)) refl
+paths_stand s (recheck_same a p write long sequence on path was) sound stand have can = λ needs. working (have needs) a (walking p write long sequence (rechecked on was)) refl
+paths_stand s (recheck_other a p write long sequence on path was) sound stand have can = λ needs. working (have needs) a (walking p write long sequence (differed was.frame)) refl
 paths_stand s (read_mark a p write long sequence on was mark) sound stand have can = λ needs. working (have needs) a (walking p write long sequence (if was.writable || mark then ready else refused)) refl
 paths_stand s (read_again a p write long sequence step now) sound stand have can = λ needs. working (have needs) a (walking p write long sequence (if now == sequence then over else step_left (s.taken a))) refl
 paths_stand s (drop_grab a p write long sequence f) sound stand have can = λ needs. working (have needs) a (walking p write long sequence stopped) refl

@@ -2,7 +2,7 @@
 use Rattle.std.proofs.Common.{◌≡◌, ◌≢◌, ℕ, true, [], refl, ap, ◌∙◌}
 use Rattle.gup_spec_tables.specs.Tables.{on_path, lacks}
 use Rattle.gup_spec_events.specs.State.{CoreState}
-use Rattle.gup_spec_events.specs.Event.{CoreEvent, Can, happens, tree_in, take_frame, fill, count_one, set_mark, upgrade, break_entry, put_entry, raise_flag, pin_page, make_handle, unpin_page, give_handle, take_handle, get_reference, put_reference, clear_entry, count_moved, place_frame, restore_entry, begin_fork, count_page, share_entry, share_mark, share_child, copy_word, place_child, pass_page, end_fork, fail_fork, put_child, fail_unborn, map_pages, lower_entry, protect_pages, drop_entry, discard_entry, add_table, take_out, reclaim, load, store, move_out, move_in, empty_mirror, fill_mirror, look, enter_walk, read_sequence, read_entry, grab_frame, miss_frame, recheck_same, recheck_other, read_mark, read_again, drop_grab, drop_last, drop_first, leave_walk}
+use Rattle.gup_spec_events.specs.Event.{CoreEvent, Can, happens, tree_in, take_frame, fill, count_one, set_mark, upgrade, break_entry, put_entry, raise_flag, pin_page, make_handle, unpin_page, give_handle, take_handle, get_reference, put_reference, clear_entry, count_moved, place_frame, restore_entry, begin_fork, count_page, share_entry, share_mark, share_child, copy_word, place_child, pass_page, end_fork, fail_fork, put_child, fail_unborn, map_pages, lower_entry, protect_pages, drop_entry, discard_entry, add_table, take_out, reclaim, load, store, move_out, move_in, empty_mirror, fill_mirror, look, enter_walk, read_sequence, read_link, read_entry, grab_frame, miss_frame, recheck_above, recheck_same, recheck_other, read_mark, read_again, drop_grab, drop_last, drop_first, leave_walk}
 use Rattle.gup_tables.proofs.Places.{put_other}
 use Rattle.gup_law_tables.specs.Standing.{TablesStand, has, has_table}
 use Rattle.gup_law_tables.proofs.Owners.{added_owned, removed_owned, reclaimed_owned, grown_keeps, same_had}
@@ -57,11 +57,13 @@ stay s (fill_mirror a m p page f writable) stand can = stand
 stay s (look a m word f value) stand can = stand
 stay s (enter_walk a p write long) stand can = stand
 stay s (read_sequence a p write long sequence) stand can = stand
-stay s (read_entry a p write long sequence page was) stand can = stand
-stay s (grab_frame a p write long sequence page entry) stand can = stand
-stay s (miss_frame a p write long sequence page entry) stand can = stand
-stay s (recheck_same a p write long sequence page entry) stand can = stand
-stay s (recheck_other a p write long sequence page entry) stand can = stand
+stay s (read_link a p write long sequence page path next) stand can = stand
+stay s (read_entry a p write long sequence page path was) stand can = stand
+stay s (grab_frame a p write long sequence page path entry) stand can = stand
+stay s (miss_frame a p write long sequence page path entry) stand can = stand
+stay s (recheck_above a p write long sequence page path entry same) stand can = stand
+stay s (recheck_same a p write long sequence page path entry) stand can = stand
+stay s (recheck_other a p write long sequence page path entry) stand can = stand
 stay s (read_mark a p write long sequence page entry mark) stand can = stand
 stay s (read_again a p write long sequence step now) stand can = stand
 stay s (drop_grab a p write long sequence f) stand can = stand
@@ -121,11 +123,13 @@ tables_kept s (fill_mirror a m p page f writable) q other can walked had = had
 tables_kept s (look a m word f value) q other can walked had = had
 tables_kept s (enter_walk a p write long) q other can walked had = had
 tables_kept s (read_sequence a p write long sequence) q other can walked had = had
-tables_kept s (read_entry a p write long sequence page was) q other can walked had = had
-tables_kept s (grab_frame a p write long sequence page entry) q other can walked had = had
-tables_kept s (miss_frame a p write long sequence page entry) q other can walked had = had
-tables_kept s (recheck_same a p write long sequence page entry) q other can walked had = had
-tables_kept s (recheck_other a p write long sequence page entry) q other can walked had = had
+tables_kept s (read_link a p write long sequence page path next) q other can walked had = had
+tables_kept s (read_entry a p write long sequence page path was) q other can walked had = had
+tables_kept s (grab_frame a p write long sequence page path entry) q other can walked had = had
+tables_kept s (miss_frame a p write long sequence page path entry) q other can walked had = had
+tables_kept s (recheck_above a p write long sequence page path entry same) q other can walked had = had
+tables_kept s (recheck_same a p write long sequence page path entry) q other can walked had = had
+tables_kept s (recheck_other a p write long sequence page path entry) q other can walked had = had
 tables_kept s (read_mark a p write long sequence page entry mark) q other can walked had = had
 tables_kept s (read_again a p write long sequence step now) q other can walked had = had
 tables_kept s (drop_grab a p write long sequence f) q other can walked had = had

@@ -2,10 +2,10 @@
 //! A page gets all the tables that it lacks, or none; and no empty table is left on the path of one that is retired, but for the root.
 #![tactic(auto)]
 
-ghost use Rattle.std.specs.Prelude.{◌≡◌, ℕ, ◌<◌, ◌≤◌, ◌==◌, true, Bool, List, [], Some, None, IsSome};
+ghost use Rattle.std.specs.Prelude.{◌≡◌, ℕ, ◌<◌, ◌≤◌, ◌==◌, true, false, Bool, List, [], Some, None, IsSome};
 ghost use Rattle.gup_base.specs.declared.entry.Entry.{Entry};
 ghost use Rattle.gup_plain.specs.Event.{page_numbers};
-ghost use Rattle.gup_spec_tables.specs.Tables.{TreeValue, table_numbers, lacks, detachable};
+ghost use Rattle.gup_spec_tables.specs.Tables.{TreeValue, table_numbers, lacks, detachable, is_among};
 ghost use Rattle.gup_spec_tables.specs.Paths.{path_to};
 ghost use Rattle.gup_spec_events.specs.State.{CoreState, core_start};
 ghost use Rattle.gup_spec_events.specs.Event.{CoreEvent, Can, happens, run, tree_in, MayShape};
@@ -14,6 +14,11 @@ ghost use Rattle.gup_spec_events.specs.Invariant.{AllCan};
 ghost use Rattle.gup_law_base.specs.Sound.{IsSound};
 ghost use Rattle.gup_law_tables.specs.Standing.{IsTree, TablesStand, has_table, IsSomewhere, IsButForTables, EntriesStand};
 ghost use Rattle.gup_law_tables.specs.Down.{IsDown};
+ghost use Rattle.gup_law_tables.specs.Inside.{step_path, WalksStand};
+ghost use Rattle.gup_plain.specs.Put.{put};
+ghost use Rattle.gup_spec_events.specs.State.{WalkStep, walking, ready};
+ghost use Rattle.gup_spec_events.specs.Event.{IsUntaken};
+ghost use Rattle.gup_spec_events.specs.Descent.{reads_down, step_down};
 
 /// Each process has a tree of tables, and each table is free or of one process, which has it in its tree or has taken it out of
 /// that. An event leaves it so, and from the start on it is so after whatever events, each when it can happen.
@@ -70,6 +75,21 @@ pub fn entries_keep_tables()
 pub fn entries_stand()
     ensures start { (movable normal tables : ℕ) (needs_tables : Bool) (is_born : ℕ → Bool) → EntriesStand (core_start movable normal tables needs_tables is_born) }
     ensures event { (s : CoreState) (e : CoreEvent) → IsSound s → TablesStand s → EntriesStand s → Can s e → EntriesStand (happens s e) }
+{}
+
+/// A walk that is in the middle of a page may be inside of the tables of its path. The process has kept each of them: it stands
+/// where it stood, or was taken out, whatever others did. So none of them is free, and none has become another page's.
+pub fn walks_stand_in_tables()
+    ensures start { (movable normal tables : ℕ) (needs_tables : Bool) (is_born : ℕ → Bool) → WalksStand (core_start movable normal tables needs_tables is_born) }
+    ensures event { (s : CoreState) (e : CoreEvent) → IsSound s → TablesStand s → WalksStand s → Can s e → WalksStand (happens s e) }
+    ensures used { (s : CoreState) (a p sequence table : ℕ) (write long : Bool) (step : WalkStep) → TablesStand s → WalksStand s → s.job a ≡ walking p write long sequence step → is_among (step_path step) table ≡ true → s.free_table table ≡ false }
+{}
+
+/// A walk that stands before a page can read down its path, one word after another, whatever page tables there are: it comes to the
+/// end of the path with the entry there, or stops.
+pub fn walks_read_down()
+    ensures can { (s : CoreState) (a p sequence page : ℕ) (write long : Bool) → s.job a ≡ walking p write long sequence ready → IsUntaken (s.taken a) page → AllCan s (reads_down s a p write long sequence page) }
+    ensures leads { (s : CoreState) (a p sequence page : ℕ) (write long : Bool) → run s (reads_down s a p write long sequence page) ≡ record s { job = put a (walking p write long sequence (step_down s p write long page)) s.job } }
 {}
 
 /// Down a page's path words lead from the root to each table that is there, one after another, and no further. Where a page with an entry

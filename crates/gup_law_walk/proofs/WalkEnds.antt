@@ -4,7 +4,7 @@ use Rattle.std.specs.Prelude.{Option, Some, None, slice_get, if◌then◌else◌
 use Rattle.std.proofs.lemmas.Bool.Decides.{nat_tests}
 use Rattle.gup_base.specs.declared.entry.Entry.{Entry}
 use Rattle.gup_plain.specs.Put.{put}
-use Rattle.gup_spec_events.specs.State.{CoreState, Taken, walking, ForkStep, between, counted, lowered, cleared, copying, failing, WalkStep, entered, ready, read, grabbed, rechecked, differed, refused, stopped, dropping, over}
+use Rattle.gup_spec_events.specs.State.{CoreState, Taken, walking, ForkStep, between, counted, lowered, cleared, copying, failing, WalkStep, entered, ready, reading, read, grabbed, rechecked, differed, refused, stopped, dropping, over}
 use Rattle.gup_spec_events.specs.Event.{Can, MayRest, is_odd, step_left, read_again}
 use Rattle.gup_spec_events.specs.Invariant.{is_inside, step_frame}
 use Rattle.gup_law_base.specs.Sound.{View, Forking, Walking, shared_page, is_failing, unkept, IsSoundBy, IsSound, Simulates}
@@ -27,8 +27,9 @@ rests_inside : (step : WalkStep) → MayRest step → (is_inside step ≡ true) 
 rests_inside ready may = (refl, refl, refl)
 rests_inside stopped may = (refl, refl, refl)
 rests_inside entered may = absurd may
-rests_inside (read page e) may = absurd may
-rests_inside (grabbed page e) may = absurd may
+rests_inside (reading page path) may = absurd may
+rests_inside (read page path e) may = absurd may
+rests_inside (grabbed page path e) may = absurd may
 rests_inside (rechecked page e) may = absurd may
 rests_inside (differed f) may = absurd may
 rests_inside refused may = absurd may

@@ -1,12 +1,14 @@
 -- A walk reads the same entry again, and takes the page: its grab becomes a page taken.
 use Rattle.std.proofs.Common.{◌≡◌, ℕ, ◌+◌, ◌-◌, ◌<◌, ◌≤◌, inl, inr, Bool, true, false, List, [], ◌∷◌, ◌++◌, length, refl, ap, sym, ◌∙◌, subst, arith}
-use Rattle.std.specs.Prelude.{Some, None, slice_get}
+use Rattle.std.specs.Prelude.{Some, None, slice_get, ◌==◌, ◌&&◌, if◌then◌else◌}
 use Rattle.std.proofs.lemmas.Bool.Decides.{nat_tests}
 use Rattle.gup_base.specs.declared.entry.Entry.{Entry}
 use Rattle.gup_plain.specs.Put.{put}
 use Rattle.gup_plain.specs.State.{Pending, born}
+use Rattle.gup_spec_tables.specs.Tables.{TreeValue}
+use Rattle.gup_spec_tables.specs.Paths.{is_there, entry_at}
 use Rattle.gup_spec_events.specs.State.{CoreState, Taken, Job, walking, grabbed, rechecked, plain_of}
-use Rattle.gup_spec_events.specs.Event.{Can, bias, IsUntaken, AreAlike, writes_taken, long_taken, recheck_same}
+use Rattle.gup_spec_events.specs.Event.{Can, bias, IsUntaken, AreAlike, writes_taken, long_taken, tree_in, recheck_same}
 use Rattle.gup_law_base.specs.Sound.{View, Walking, walk_frame, IsSoundBy, IsSound, Simulates}
 use Rattle.gup_law_base.proofs.Clauses.{References, Grabs, CountIs, PreparedOnce, MovingOnce}
 use Rattle.gup_law_base.proofs.Rows.{at_either, at_within, all_from}
@@ -45,16 +47,24 @@ module _ (v : View) (s : CoreState) (ts : List Taken) (t : Taken) where
         apart = λ j k u x. grind (arith, nat_tests, old.apart j k u x, at_either ts t j u, at_either ts t k x, all_untaken ts j u t.page untaken, all_untaken ts k x t.page untaken);
       }
 
+-- what is read at the end of a path is the page's entry
+pub entry_there : (v : TreeValue) (path : List ℕ) (page : ℕ) (e : Entry) → entry_at v path page ≡ Some e → v.entry page ≡ Some e
+entry_there v path page e is = go (is_there v path page && (length path == 3)) is
+  where
+    go : (whole : Bool) → (if whole then v.entry page else None) ≡ Some e → v.entry page ≡ Some e
+    go true is = is
+    go false is = absurd (cc)
+
 -- the entry is there, so that its frame is neither prepared nor cleared with the count 1; where it is exclusive, it is the
 -- page's
-pub simulates-recheck_same : (s : CoreState) (a p : ℕ) (write long : Bool) (sequence page : ℕ) (entry : Entry) → IsSound s → Can s (recheck_same a p write long sequence page entry) → Simulates s (recheck_same a p write long sequence page entry)
-simulates-recheck_same s a p write long sequence page e (v, h) c =
+pub simulates-recheck_same : (s : CoreState) (a p : ℕ) (write long : Bool) (sequence page : ℕ) (path : List ℕ) (entry : Entry) → IsSound s → Can s (recheck_same a p write long sequence page path entry) → Simulates s (recheck_same a p write long sequence page path entry)
+simulates-recheck_same s a p write long sequence page path e (v, h) c =
     let f : ℕ = e.frame in
     let ts : List Taken = s.taken a in
-    let old : Walking = walk_of p write long sequence (grabbed page e) in
+    let old : Walking = walk_of p write long sequence (grabbed page path e) in
     let now : Walking = walk_of p write long sequence (rechecked page e) in
-    let was : IsWalk v s ts old = walk_known v s h a p write long sequence (grabbed page e) c.0 in
-    let seen : walk_frame (v.walks a) ≡ Some f = ap walk_frame (walk_seen v s h a p write long sequence (grabbed page e) c.0) in
+    let was : IsWalk v s ts old = walk_known v s h a p write long sequence (grabbed page path e) c.0 in
+    let seen : walk_frame (v.walks a) ≡ Some f = ap walk_frame (walk_seen v s h a p write long sequence (grabbed page path e) c.0) in
     let new : Taken = record { proc = p; page = page; frame = e.frame; object = s.object p page; write = write; long = long } in
     let us : List Taken = ts ++ new ∷ [] in
     let job : Job = walking p write long sequence (rechecked page e) in
@@ -63,7 +73,7 @@ simulates-recheck_same s a p write long sequence page e (v, h) c =
     let taken : ℕ → List Taken = put a us s.taken in
     let S : CoreState = switched v s h a job s.walks s.count more fewer taken in
     let V : View = switched_view v s h a job s.walks s.count more fewer taken in
-    let there : v.whole p page ≡ Some e = h.whole_entry p page e c.1 in
+    let there : v.whole p page ≡ Some e = h.whole_entry p page e (entry_there (tree_in s p) path page e c.1) in
     let named : v.names p page ≡ Some (s.object p page) = h.whole_names p page e there in
     let is_born : s.birth p ≡ born = h.flag_born p was.flag in
     let weighs : bias ≤ v.grabs f = grab_counts v s h a f seen in
@@ -97,5 +107,5 @@ simulates-recheck_same s a p write long sequence page e (v, h) c =
       writable = λ k t d checked writable same. each_more (λ k t. k + 1 ≡ length us → s.mark t.frame ≡ true) ts new (λ k t at end. absurd (omega (arith, longer, end, at_within ts k t at))) (λ end. h.entry_marked p page e there (let is : e ≡ d = cc in ap (λ (x : Entry). x.writable) is ∙ writable)) k t;
     } in
     let actor : IsActor v s (taken a) (Some now) = subst (λ xs. IsActor v s xs (Some now)) (sym (number_here a us s.taken)) (in_walk v s us now pages (λ closed. absurd (cc)) walk) in
-    let sound : IsSoundBy V S = switches v s h a job s.walks s.count more fewer taken (walk_light v s h a p write long sequence (grabbed page e) c.0) (walking_light p write long sequence (rechecked page e)) (λ b apart. put_there a us s.taken b apart) references grabs count_is prepared_once moving_once (number_stays v s h a p write long sequence (grabbed page e) c.0 sequence (rechecked page e)) actor in
+    let sound : IsSoundBy V S = switches v s h a job s.walks s.count more fewer taken (walk_light v s h a p write long sequence (grabbed page path e) c.0) (walking_light p write long sequence (rechecked page e)) (λ b apart. put_there a us s.taken b apart) references grabs count_is prepared_once moving_once (number_stays v s h a p write long sequence (grabbed page path e) c.0 sequence (rechecked page e)) actor in
     record { sound = (V, sound); can = (is_born, allows v s h p page e write is_born there (was.writes e refl), untold ts page untaken); same = ap (λ (x : ℕ → List Pending). record (plain_of s) { pending = x }) (told_more s a p page new (born_mapped v s h p page e is_born there)) }

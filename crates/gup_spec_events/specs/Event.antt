@@ -1,5 +1,5 @@
 -- The core events: when each can happen, what it changes, and the plain event that stands at it.
-use Rattle.std.specs.Prelude.{◌≡◌, ℕ, ◌+◌, ◌-◌, ◌/◌, ◌%◌, ◌<◌, ◌≤◌, ◌==◌, ◌&&◌, ◌||◌, ◌⊎◌, nat_le, nat_lt, not, Bool, true, false, if◌then◌else◌, List, [], ◌∷◌, ◌++◌, map, slice_get, All, Contains, Option, Some, None, IsSome, zero}
+use Rattle.std.specs.Prelude.{◌≡◌, ℕ, ◌+◌, ◌-◌, ◌/◌, ◌%◌, ◌<◌, ◌≤◌, ◌==◌, ◌&&◌, ◌||◌, ◌⊎◌, nat_le, nat_lt, not, Bool, true, false, if◌then◌else◌, List, [], ◌∷◌, ◌++◌, length, map, slice_get, All, Contains, Option, Some, None, IsSome, zero}
 use Rattle.std.specs.Option.{option_map}
 pub use Rattle.gup_base.specs.Counts.{bias}
 use Rattle.gup_base.specs.declared.entry.Allowed.{Allowed}
@@ -16,7 +16,8 @@ use Rattle.gup_plain.specs.Pages.{mapped_pages}
 use Rattle.gup_plain.specs.Put.{put, put2, spread}
 use Rattle.gup_plain.specs.State.{PlainState, Noted, unborn, growing, born, failed, unmade, held, gone, named_or_zero}
 use Rattle.gup_spec_tables.specs.Tables.{TreeValue, table_numbers, placed_tables, on_path, lacks, detachable, is_among}
-use Rattle.gup_spec_events.specs.State.{CoreState, Taken, Job, idle, marking, moving, forking, walking, Counted, unread, one, more, ForkStep, between, counted, lowered, cleared, copying, failing, WalkStep, entered, ready, read, grabbed, rechecked, differed, refused, stopped, dropping, over}
+use Rattle.gup_spec_tables.specs.Paths.{link_at, entry_at, leads_still}
+use Rattle.gup_spec_events.specs.State.{CoreState, Taken, Job, idle, marking, moving, forking, walking, Counted, unread, one, more, ForkStep, between, counted, lowered, cleared, copying, failing, WalkStep, entered, ready, reading, read, grabbed, rechecked, differed, refused, stopped, dropping, over}
 
 -- An event names its actor, its process and page, and what it reads: so its change has no cases.
 pub data CoreEvent : Type 0 where
@@ -115,14 +116,19 @@ pub data CoreEvent : Type 0 where
   enter_walk : (a p : ℕ) (write long : Bool) → CoreEvent
   -- the sequence is read: where it is odd, a fork is running, and the walk is over
   read_sequence : (a p : ℕ) (write long : Bool) (sequence : ℕ) → CoreEvent
-  -- a page's entry is read: where it isn't right for the pin, the walk stops
-  read_entry : (a p : ℕ) (write long : Bool) (sequence page : ℕ) (was : Option Entry) → CoreEvent
+  -- On a page's path a word is read, of the root at first and then of each table to which the word before leads: it leads to
+  -- the next one, or to none and the walk stops.
+  read_link : (a p : ℕ) (write long : Bool) (sequence page : ℕ) (path : List ℕ) (next : Option ℕ) → CoreEvent
+  -- the entry in the word of the path's last table is read: where it isn't right for the pin, the walk stops
+  read_entry : (a p : ℕ) (write long : Bool) (sequence page : ℕ) (path : List ℕ) (was : Option Entry) → CoreEvent
   -- its frame gets the weight of a pin, or the walk stops
-  grab_frame : (a p : ℕ) (write long : Bool) (sequence page : ℕ) (entry : Entry) → CoreEvent
-  miss_frame : (a p : ℕ) (write long : Bool) (sequence page : ℕ) (entry : Entry) → CoreEvent
+  grab_frame : (a p : ℕ) (write long : Bool) (sequence page : ℕ) (path : List ℕ) (entry : Entry) → CoreEvent
+  miss_frame : (a p : ℕ) (write long : Bool) (sequence page : ℕ) (path : List ℕ) (entry : Entry) → CoreEvent
+  -- the word above is read again: it leads to the path's last table still, or doesn't
+  recheck_above : (a p : ℕ) (write long : Bool) (sequence page : ℕ) (path : List ℕ) (entry : Entry) (same : Bool) → CoreEvent
   -- the entry is read again: it is the same, and the page is taken; or it is another
-  recheck_same : (a p : ℕ) (write long : Bool) (sequence page : ℕ) (entry : Entry) → CoreEvent
-  recheck_other : (a p : ℕ) (write long : Bool) (sequence page : ℕ) (entry : Entry) → CoreEvent
+  recheck_same : (a p : ℕ) (write long : Bool) (sequence page : ℕ) (path : List ℕ) (entry : Entry) → CoreEvent
+  recheck_other : (a p : ℕ) (write long : Bool) (sequence page : ℕ) (path : List ℕ) (entry : Entry) → CoreEvent
   -- the frame's mark is read: an unmarked frame in a read-only entry is refused
   read_mark : (a p : ℕ) (write long : Bool) (sequence page : ℕ) (entry : Entry) (mark : Bool) → CoreEvent
   -- at the end the sequence is read again: where it has changed, all that was taken is dropped
@@ -239,10 +245,20 @@ is_odd n = n % 2 == 1
 abbrev pub is_wrong : CoreState → (write long : Bool) → Entry → Bool
 is_wrong s write long e = (write && not e.writable) || (long && nat_lt e.frame s.movable)
 
+-- where a walk is that has come down a page's path so far
+abbrev pub step_at : (page : ℕ) → (path : List ℕ) → WalkStep
+step_at page [] = ready
+step_at page (table ∷ path) = reading page (table ∷ path)
+
+-- and where a word led it on from there, or nowhere
+abbrev pub step_led : (page : ℕ) → (path : List ℕ) → Option ℕ → WalkStep
+step_led page path None = stopped
+step_led page path (Some table) = reading page (table ∷ path)
+
 -- what a walk makes of the entry that it read
-abbrev pub step_read : CoreState → (write long : Bool) → (page : ℕ) → Option Entry → WalkStep
-step_read s write long page None = stopped
-step_read s write long page (Some e) = if is_wrong s write long e then stopped else read page e
+abbrev pub step_read : CoreState → (write long : Bool) → (page : ℕ) → (path : List ℕ) → Option Entry → WalkStep
+step_read s write long page path None = stopped
+step_read s write long page path (Some e) = if is_wrong s write long e then stopped else read page path e
 
 -- the steps after which a walk reads the sequence again
 abbrev pub MayRest : WalkStep → Type 0
@@ -382,15 +398,21 @@ Can s (enter_walk a p write long) =
     (s.birth p ≡ born) × IsIdle s a × (s.taken a ≡ []) × (s.has_pinned p ≡ true)
 Can s (read_sequence a p write long sequence) =
     (s.job a ≡ walking p write long 0 entered) × (sequence ≡ s.sequence p)
-Can s (read_entry a p write long sequence page was) =
-    (s.job a ≡ walking p write long sequence ready) × (was ≡ s.entry p page) × IsUntaken (s.taken a) page
-Can s (grab_frame a p write long sequence page e) =
-    (s.job a ≡ walking p write long sequence (read page e)) × (s.count e.frame ≡ 0 → ⊥)
-Can s (miss_frame a p write long sequence page e) = s.job a ≡ walking p write long sequence (read page e)
-Can s (recheck_same a p write long sequence page e) =
-    (s.job a ≡ walking p write long sequence (grabbed page e)) × (s.entry p page ≡ Some e)
-Can s (recheck_other a p write long sequence page e) =
-    (s.job a ≡ walking p write long sequence (grabbed page e)) × (s.entry p page ≡ Some e → ⊥)
+Can s (read_link a p write long sequence page path next) =
+    (s.job a ≡ walking p write long sequence (step_at page path)) × (length path < 3)
+    × (next ≡ link_at (tree_in s p) path page) × IsUntaken (s.taken a) page
+Can s (read_entry a p write long sequence page path was) =
+    (s.job a ≡ walking p write long sequence (step_at page path)) × (length path ≡ 3)
+    × (was ≡ entry_at (tree_in s p) path page) × IsUntaken (s.taken a) page
+Can s (grab_frame a p write long sequence page path e) =
+    (s.job a ≡ walking p write long sequence (read page path e)) × (s.count e.frame ≡ 0 → ⊥)
+Can s (miss_frame a p write long sequence page path e) = s.job a ≡ walking p write long sequence (read page path e)
+Can s (recheck_above a p write long sequence page path e same) =
+    (s.job a ≡ walking p write long sequence (grabbed page path e)) × (same ≡ leads_still (tree_in s p) path page)
+Can s (recheck_same a p write long sequence page path e) =
+    (s.job a ≡ walking p write long sequence (grabbed page path e)) × (entry_at (tree_in s p) path page ≡ Some e)
+Can s (recheck_other a p write long sequence page path e) =
+    (s.job a ≡ walking p write long sequence (grabbed page path e)) × (entry_at (tree_in s p) path page ≡ Some e → ⊥)
 Can s (read_mark a p write long sequence page e mark) =
     (s.job a ≡ walking p write long sequence (rechecked page e)) × (mark ≡ s.mark e.frame)
 Can s (read_again a p write long sequence step now) =
@@ -657,16 +679,20 @@ happens s (enter_walk a p write long) =
     record s { walks = put p (s.walks p + 1) s.walks; job = put a (walking p write long 0 entered) s.job }
 happens s (read_sequence a p write long sequence) =
     record s { job = put a (walking p write long sequence (if is_odd sequence then over else ready)) s.job }
-happens s (read_entry a p write long sequence page was) =
-    record s { job = put a (walking p write long sequence (step_read s write long page was)) s.job }
-happens s (grab_frame a p write long sequence page e) =
+happens s (read_link a p write long sequence page path next) =
+    record s { job = put a (walking p write long sequence (step_led page path next)) s.job }
+happens s (read_entry a p write long sequence page path was) =
+    record s { job = put a (walking p write long sequence (step_read s write long page path was)) s.job }
+happens s (grab_frame a p write long sequence page path e) =
     record s {
       count = put e.frame (s.count e.frame + bias_of s) s.count;
-      job = put a (walking p write long sequence (grabbed page e)) s.job;
+      job = put a (walking p write long sequence (grabbed page path e)) s.job;
     }
-happens s (miss_frame a p write long sequence page e) =
+happens s (miss_frame a p write long sequence page path e) =
     record s { job = put a (walking p write long sequence stopped) s.job }
-happens s (recheck_same a p write long sequence page e) =
+happens s (recheck_above a p write long sequence page path e same) =
+    record s { job = put a (walking p write long sequence (if same then grabbed page path e else differed e.frame)) s.job }
+happens s (recheck_same a p write long sequence page path e) =
     record s {
       taken =
           put a
@@ -674,7 +700,7 @@ happens s (recheck_same a p write long sequence page e) =
           s.taken;
       job = put a (walking p write long sequence (rechecked page e)) s.job;
     }
-happens s (recheck_other a p write long sequence page e) =
+happens s (recheck_other a p write long sequence page path e) =
     record s { job = put a (walking p write long sequence (differed e.frame)) s.job }
 happens s (read_mark a p write long sequence page e mark) =
     record s { job = put a (walking p write long sequence (if e.writable || mark then ready else refused)) s.job }
@@ -721,7 +747,7 @@ told (move_out a h index slot f value) = Some (events.MoveOut a h index slot val
 told (move_in a h index slot f value) = Some (events.MoveIn a h index slot value)
 told (fill_mirror a m p page f writable) = Some (events.MirrorFill a m p page)
 told (look a m word f value) = Some (events.Look a m word value)
-told (recheck_same a p write long sequence page e) = Some (events.PinTry a p page write)
+told (recheck_same a p write long sequence page path e) = Some (events.PinTry a p page write)
 told (drop_last a p write long sequence left last) = Some (events.PinDrop a last.page)
 told (drop_first a p write long sequence first left) = Some (events.PinDrop a first.page)
 told e = None

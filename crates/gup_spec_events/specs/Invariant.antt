@@ -45,7 +45,7 @@ taken_frame None = None
 taken_frame (Some t) = Some t.frame
 
 abbrev pub step_frame : WalkStep → Option ℕ
-step_frame (grabbed page e) = Some e.frame
+step_frame (grabbed page path e) = Some e.frame
 step_frame (differed f) = Some f
 step_frame step = None
 

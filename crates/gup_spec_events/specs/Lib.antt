@@ -4,3 +4,4 @@ pub mod Invariant
 pub mod Fault
 pub mod Failure
 pub mod Growth
+pub mod Descent

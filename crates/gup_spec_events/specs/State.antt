@@ -23,12 +23,14 @@ pub data ForkStep : Type 0 where
   copying : (page words : ℕ) → ForkStep
   failing : ForkStep
 
--- where a lockless walk is
+-- Where a lockless walk is. In the middle of a page it may be inside of the tables of its path: those below the root to which
+-- words of the table before have led, the last one first.
 pub data WalkStep : Type 0 where
   entered : WalkStep
   ready : WalkStep
-  read : (page : ℕ) (entry : Entry) → WalkStep
-  grabbed : (page : ℕ) (entry : Entry) → WalkStep
+  reading : (page : ℕ) (path : List ℕ) → WalkStep
+  read : (page : ℕ) (path : List ℕ) (entry : Entry) → WalkStep
+  grabbed : (page : ℕ) (path : List ℕ) (entry : Entry) → WalkStep
   rechecked : (page : ℕ) (entry : Entry) → WalkStep
   differed : (frame : ℕ) → WalkStep
   refused : WalkStep

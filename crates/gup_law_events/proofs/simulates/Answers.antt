@@ -1,5 +1,5 @@
 -- A case an event, each from the crate of its group.
-use Rattle.gup_spec_events.specs.Event.{take_frame, fill, count_one, set_mark, upgrade, break_entry, put_entry, map_pages, lower_entry, protect_pages, drop_entry, discard_entry, add_table, take_out, reclaim, load, store, move_out, move_in, empty_mirror, fill_mirror, look, raise_flag, pin_page, make_handle, unpin_page, give_handle, take_handle, get_reference, put_reference, clear_entry, count_moved, place_frame, restore_entry, begin_fork, count_page, share_entry, share_mark, share_child, pass_page, copy_word, place_child, end_fork, fail_fork, put_child, fail_unborn, enter_walk, read_sequence, read_entry, grab_frame, miss_frame, recheck_same, recheck_other, read_mark, read_again, drop_grab, drop_last, drop_first, leave_walk}
+use Rattle.gup_spec_events.specs.Event.{take_frame, fill, count_one, set_mark, upgrade, break_entry, put_entry, map_pages, lower_entry, protect_pages, drop_entry, discard_entry, add_table, take_out, reclaim, load, store, move_out, move_in, empty_mirror, fill_mirror, look, raise_flag, pin_page, make_handle, unpin_page, give_handle, take_handle, get_reference, put_reference, clear_entry, count_moved, place_frame, restore_entry, begin_fork, count_page, share_entry, share_mark, share_child, pass_page, copy_word, place_child, end_fork, fail_fork, put_child, fail_unborn, enter_walk, read_sequence, read_link, read_entry, grab_frame, miss_frame, recheck_above, recheck_same, recheck_other, read_mark, read_again, drop_grab, drop_last, drop_first, leave_walk}
 use Rattle.gup_law_events.proofs.simulates.Goals as goal
 
 pub returns : goal.returns
@@ -51,11 +51,13 @@ returns c s (put_child a p child done page entry ends) sound can = c.forks_simul
 returns c s (fail_unborn a p child) sound can = c.forks_simulate.ensures.fail_unborn a p child s sound can
 returns c s (enter_walk a p write long) sound can = c.walks_simulate.ensures.enter_walk a p write long s sound can
 returns c s (read_sequence a p write long sequence) sound can = c.walks_simulate.ensures.read_sequence a p write long sequence s sound can
-returns c s (read_entry a p write long sequence page was) sound can = c.walks_simulate.ensures.read_entry a p write long sequence page was s sound can
-returns c s (grab_frame a p write long sequence page entry) sound can = c.walks_simulate.ensures.grab_frame a p write long sequence page entry s sound can
-returns c s (miss_frame a p write long sequence page entry) sound can = c.walks_simulate.ensures.miss_frame a p write long sequence page entry s sound can
-returns c s (recheck_same a p write long sequence page entry) sound can = c.walks_simulate.ensures.recheck_same a p write long sequence page entry s sound can
-returns c s (recheck_other a p write long sequence page entry) sound can = c.walks_simulate.ensures.recheck_other a p write long sequence page entry s sound can
+returns c s (read_link a p write long sequence page path next) sound can = c.walks_simulate.ensures.read_link a p write long sequence page path next s sound can
+returns c s (read_entry a p write long sequence page path was) sound can = c.walks_simulate.ensures.read_entry a p write long sequence page path was s sound can
+returns c s (grab_frame a p write long sequence page path entry) sound can = c.walks_simulate.ensures.grab_frame a p write long sequence page path entry s sound can
+returns c s (miss_frame a p write long sequence page path entry) sound can = c.walks_simulate.ensures.miss_frame a p write long sequence page path entry s sound can
+returns c s (recheck_above a p write long sequence page path entry same) sound can = c.walks_simulate.ensures.recheck_above a p write long sequence page path entry same s sound can
+returns c s (recheck_same a p write long sequence page path entry) sound can = c.walks_simulate.ensures.recheck_same a p write long sequence page path entry s sound can
+returns c s (recheck_other a p write long sequence page path entry) sound can = c.walks_simulate.ensures.recheck_other a p write long sequence page path entry s sound can
 returns c s (read_mark a p write long sequence page entry mark) sound can = c.walks_simulate.ensures.read_mark a p write long sequence page entry mark s sound can
 returns c s (read_again a p write long sequence step now) sound can = c.walks_simulate.ensures.read_again a p write long sequence step now s sound can
 returns c s (drop_grab a p write long sequence f) sound can = c.walks_simulate.ensures.drop_grab a p write long sequence f s sound can

@@ -1,8 +1,8 @@
 -- One lemma an event.
 use Rattle.gup_law_walk.proofs.WalkBegins.{simulates-enter_walk, simulates-read_sequence, simulates-leave_walk}
-use Rattle.gup_law_walk.proofs.WalkReads.{simulates-read_entry, simulates-grab_frame, simulates-miss_frame}
+use Rattle.gup_law_walk.proofs.WalkReads.{simulates-read_link, simulates-read_entry, simulates-grab_frame, simulates-miss_frame}
 use Rattle.gup_law_walk.proofs.WalkTakes.{simulates-recheck_same}
-use Rattle.gup_law_walk.proofs.WalkRechecks.{simulates-recheck_other, simulates-read_mark}
+use Rattle.gup_law_walk.proofs.WalkRechecks.{simulates-recheck_above, simulates-recheck_other, simulates-read_mark}
 use Rattle.gup_law_walk.proofs.WalkEnds.{simulates-read_again}
 use Rattle.gup_law_walk.proofs.WalkDrops.{simulates-drop_grab, simulates-drop_last, simulates-drop_first}
 use Rattle.gup_law_walk.proofs.walks_simulate.Goals as goal
@@ -13,20 +13,26 @@ returns-clause-enter_walk c = λ a p write long s sound can. simulates-enter_wal
 pub returns-clause-read_sequence : goal.returns-clause-read_sequence
 returns-clause-read_sequence c = λ a p write long sequence s sound can. simulates-read_sequence s a p write long sequence sound can
 
+pub returns-clause-read_link : goal.returns-clause-read_link
+returns-clause-read_link c = λ a p write long sequence page path next s sound can. simulates-read_link s a p write long sequence page path next sound can
+
 pub returns-clause-read_entry : goal.returns-clause-read_entry
-returns-clause-read_entry c = λ a p write long sequence page was s sound can. simulates-read_entry s a p write long sequence page was sound can
+returns-clause-read_entry c = λ a p write long sequence page path was s sound can. simulates-read_entry s a p write long sequence page path was sound can
 
 pub returns-clause-grab_frame : goal.returns-clause-grab_frame
-returns-clause-grab_frame c = λ a p write long sequence page entry s sound can. simulates-grab_frame s a p write long sequence page entry sound can
+returns-clause-grab_frame c = λ a p write long sequence page path entry s sound can. simulates-grab_frame s a p write long sequence page path entry sound can
 
 pub returns-clause-miss_frame : goal.returns-clause-miss_frame
-returns-clause-miss_frame c = λ a p write long sequence page entry s sound can. simulates-miss_frame s a p write long sequence page entry sound can
+returns-clause-miss_frame c = λ a p write long sequence page path entry s sound can. simulates-miss_frame s a p write long sequence page path entry sound can
+
+pub returns-clause-recheck_above : goal.returns-clause-recheck_above
+returns-clause-recheck_above c = λ a p write long sequence page path entry same s sound can. simulates-recheck_above s a p write long sequence page path entry same sound can
 
 pub returns-clause-recheck_same : goal.returns-clause-recheck_same
-returns-clause-recheck_same c = λ a p write long sequence page entry s sound can. simulates-recheck_same s a p write long sequence page entry sound can
+returns-clause-recheck_same c = λ a p write long sequence page path entry s sound can. simulates-recheck_same s a p write long sequence page path entry sound can
 
 pub returns-clause-recheck_other : goal.returns-clause-recheck_other
-returns-clause-recheck_other c = λ a p write long sequence page entry s sound can. simulates-recheck_other s a p write long sequence page entry sound can
+returns-clause-recheck_other c = λ a p write long sequence page path entry s sound can. simulates-recheck_other s a p write long sequence page path entry sound can
 
 pub returns-clause-read_mark : goal.returns-clause-read_mark
 returns-clause-read_mark c = λ a p write long sequence page entry mark s sound can. simulates-read_mark s a p write long sequence page entry mark sound can
