@@ -1,5 +1,5 @@
 -- The state of the core machine as the program keeps it.
-use Rattle.std.specs.Prelude.{false, nat_lt, [], None}
+use Rattle.std.specs.Prelude.{false}
 use Rattle.gup_spec_events.specs.State.{CoreState}
 use Rattle.gup_exec_parts.specs.Contents.{content_of}
 use Rattle.gup_exec_rows.specs.Grid.{found}
@@ -12,7 +12,7 @@ use Rattle.gup_exec_rows.specs.Sheets.{words_in}
 use Rattle.gup_exec_rows.specs.Stores.{slots_of}
 use Rattle.gup_exec_core.specs.declared.trial.Trial.{Trial}
 
--- each field, read as a function of numbers; there are no page tables, and entries need none
+-- each field, read as a function of numbers; entries need no page tables
 abbrev pub state_of : Trial → CoreState
 state_of t =
     record {
@@ -33,9 +33,9 @@ state_of t =
       entry = found t.entry;
       object = objects_in t.object;
       copied = copies t.procs;
-      free_table = λ table. nat_lt table 0;
-      place = λ _ _. None;
-      retired = λ _. [];
+      free_table = at t.free_table;
+      place = found t.place;
+      retired = at t.retired;
       needs_tables = false;
       content = content_of t.contents;
       made = t.contents.made;

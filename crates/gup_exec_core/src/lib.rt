@@ -7,6 +7,7 @@ mod forks;
 mod mappings;
 mod moves;
 mod pins;
+mod tables;
 mod trial;
 
 pub use gup_exec_jobs::refused::Refused;

@@ -1,5 +1,5 @@
 //! The state of the core machine.
-ghost use Rattle.std.specs.Prelude.{◌≡◌, ◌==◌, if◌then◌else◌, true, false, ◌↔◌, IsTrue, IfOk};
+ghost use Rattle.std.specs.Prelude.{◌≡◌, ◌≤◌, ◌==◌, if◌then◌else◌, true, false, ◌↔◌, IsTrue, IfOk};
 ghost use Rattle.gup_spec_events.specs.State.{core_start};
 ghost use Rattle.gup_spec_events.specs.Event.{AreUnlocked, IsAllowed, IsIdle, IsNormal, IsUnmirrored};
 ghost use Rattle.gup_plain.specs.State.{born, unborn};
@@ -19,10 +19,12 @@ use gup_exec_rows::procs::Procs;
 use gup_exec_rows::row::Row;
 use gup_exec_rows::sheets::Sheets;
 use gup_exec_rows::stores::Stores;
+use gup_exec_rows::tables::{TableList, free_below};
+use gup_tables::Place;
 use std::alloc::Global;
 
 /// A state of the core machine, with 16 processes, 81 actors, 1,024 handles and as many got references, and 64 mirror
-/// slots, and with no page tables. Contracts see it as `state_of` it.
+/// slots. No entry needs page tables. Contracts see it as `state_of` it.
 #[derive(Drop)]
 pub struct Trial {
     pub movable: u16,
@@ -52,6 +54,9 @@ pub struct Trial {
     pub owed: Row<Option<FrameNo>, 81>,
     pub taken: Row<TakenList, 81>,
     pub store: Stores,
+    pub free_table: Row<bool, 8192>,
+    pub place: Grid<Place>,
+    pub retired: Row<TableList, 16>,
     pub alloc: Global,
 }
 
@@ -66,10 +71,17 @@ fn one_born(alloc: Global, first: ProcNo) -> Result<Procs, NoMemory>
 }
 
 impl Trial {
-    /// The start: so many frames of the movable zone and, after them, of the normal one, all free and zero; one process
-    /// born, and nothing mapped.
-    pub fn new(alloc: Global, movable: u16, normal: u16, first: ProcNo) -> Result<Trial, NoMemory>
-        ensures { IfOk result (λ trial. state_of trial ≡ core_start movable normal 0 false (λ p. p == first)) }
+    /// The start: so many frames of the movable zone and, after them, of the normal one, all free and zero; so many page
+    /// tables; one process born, and nothing mapped.
+    pub fn new(
+        alloc: Global,
+        movable: u16,
+        normal: u16,
+        tables: u16,
+        first: ProcNo,
+    ) -> Result<Trial, NoMemory>
+        requires { tables ≤ 8192 }
+        ensures { IfOk result (λ trial. state_of trial ≡ core_start movable normal tables false (λ p. p == first)) }
     {
         let count = Row::new(alloc, 0)?;
         let mark = Row::new(alloc, false)?;
@@ -101,6 +113,11 @@ impl Trial {
         let no_pages = TakenList::new(pages_taken);
         let taken = Row::new(alloc, no_pages)?;
         let store = Stores::new(alloc)?;
+        let free_table = free_below(alloc, tables)?;
+        let place = Grid::new(alloc)?;
+        let tables_out = Vec::new(alloc);
+        let no_tables = TableList::new(tables_out);
+        let retired = Row::new(alloc, no_tables)?;
         Ok(Trial {
             movable,
             normal,
@@ -129,6 +146,9 @@ impl Trial {
             owed,
             taken,
             store,
+            free_table,
+            place,
+            retired,
             alloc,
         })
     }

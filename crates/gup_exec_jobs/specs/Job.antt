@@ -1,5 +1,5 @@
 -- What an actor is in the middle of, as the program keeps it.
-use Rattle.gup_spec_events.specs.State.{Job, idle, marking, moving, forking, walking, Counted, unread, one, more, ForkStep, between, counted, lowered, cleared, copying, failing, WalkStep, entered, ready, read, grabbed, rechecked, differed, refused, stopped, dropping, over}
+use Rattle.gup_spec_events.specs.State.{Job, idle, marking, moving, forking, walking, Counted, unread, one, more, ForkStep, between, counted, lowered, cleared, copying, failing, WalkStep, entered, ready, reading, read, grabbed, rechecked, differed, refused, stopped, dropping, over}
 use Rattle.gup_exec_jobs.specs.declared.job.Counted.{Counted as Count}
 use Rattle.gup_exec_jobs.specs.declared.job.Counted.TheVariants as counts
 use Rattle.gup_exec_jobs.specs.declared.job.ForkStep.{ForkStep as Step}
@@ -8,6 +8,7 @@ use Rattle.gup_exec_jobs.specs.declared.job.Stage.{Stage}
 use Rattle.gup_exec_jobs.specs.declared.job.Stage.TheVariants as stages
 use Rattle.gup_exec_jobs.specs.declared.walk.WalkStep.{WalkStep as Walk}
 use Rattle.gup_exec_jobs.specs.declared.walk.WalkStep.TheVariants as walks
+use Rattle.gup_exec_jobs.specs.Trail.{trail_of}
 
 abbrev pub count_of : Count → Counted
 count_of counts.Unread = unread
@@ -25,8 +26,9 @@ step_of steps.Failing = failing
 abbrev pub walk_of : Walk → WalkStep
 walk_of walks.Entered = entered
 walk_of walks.Ready = ready
-walk_of (walks.Read page e) = read page e
-walk_of (walks.Grabbed page e) = grabbed page e
+walk_of (walks.Reading page path) = reading page (trail_of path)
+walk_of (walks.Read page path e) = read page (trail_of path) e
+walk_of (walks.Grabbed page path e) = grabbed page (trail_of path) e
 walk_of (walks.Rechecked page e) = rechecked page e
 walk_of (walks.Differed f) = differed f
 walk_of walks.Refused = refused

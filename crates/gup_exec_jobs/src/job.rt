@@ -1,11 +1,11 @@
 //! What an actor is in the middle of.
 ghost use Rattle.std.specs.Prelude.{◌≡◌, ◌↔◌, if◌then◌else◌, IsTrue};
 ghost use Rattle.gup_spec_events.specs.State.{idle, marking, moving, forking, walking, failing};
-ghost use Rattle.gup_spec_events.specs.Event.{MayPrepare, MayFail};
+ghost use Rattle.gup_spec_events.specs.Event.{MayPrepare, MayFail, child_of};
 ghost use Rattle.gup_exec_jobs.specs.Job.{job_of, step_of, count_of, walk_of};
 
 use crate::lists;
-use crate::walk::WalkStep;
+use crate::walk::{WalkStep, is_same_step};
 use gup_base::{Allowed, Entry, FrameNo, PageNo, ProcNo};
 use std::marker::Model;
 
@@ -241,9 +241,19 @@ impl Job {
                 if *read != sequence {
                     return false;
                 }
-                *at == *step
+                is_same_step(at, step)
             }
             _ => false,
+        }
+    }
+
+    /// The child of a running fork, also of one that fails.
+    pub fn child(&self) -> Option<ProcNo>
+        ensures { result ≡ child_of self.now }
+    {
+        match &self.stage {
+            Stage::Forking(_, child, _, _) => Some(*child),
+            _ => None,
         }
     }
 

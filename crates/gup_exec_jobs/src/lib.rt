@@ -6,4 +6,5 @@ pub mod lists;
 pub mod needs;
 pub mod refused;
 pub mod taken;
+pub mod trail;
 pub mod walk;

@@ -1,11 +1,14 @@
 //! Where a lockless walk is, and where it goes on.
-ghost use Rattle.std.specs.Prelude.{◌≡◌, ◌==◌, ◌||◌, ◌↔◌, if◌then◌else◌, IsTrue};
-ghost use Rattle.gup_spec_events.specs.Event.{MayRest, is_odd, step_left};
+ghost use Rattle.std.specs.Prelude.{◌≡◌, ◌<◌, ◌==◌, ◌||◌, ◌↔◌, if◌then◌else◌, IsTrue, length};
+ghost use Rattle.gup_spec_events.specs.Event.{MayRest, is_odd, step_at, step_led, step_left};
 ghost use Rattle.gup_spec_events.specs.State.{ready, read, grabbed, rechecked, refused, over};
 ghost use Rattle.gup_exec_jobs.specs.Job.{walk_of};
+ghost use Rattle.gup_exec_jobs.specs.Trail.{trail_of};
 
 use crate::taken::Taken;
+use crate::trail::Trail;
 use gup_base::{Entry, FrameNo, PageNo};
+use gup_tables::TableNo;
 
 /// Where a lockless walk is.
 #[derive(Clone, Copy, Debug, PartialEq, Eq)]
@@ -14,10 +17,12 @@ pub enum WalkStep {
     Entered,
     /// It has read the sequence, or is done with a page.
     Ready,
+    /// It is inside of the tables of the page's path.
+    Reading(PageNo, Trail),
     /// It has read the page's entry, which is right for the pin.
-    Read(PageNo, Entry),
+    Read(PageNo, Trail, Entry),
     /// The entry's frame has the weight of a pin.
-    Grabbed(PageNo, Entry),
+    Grabbed(PageNo, Trail, Entry),
     /// It has found the same entry once more, and taken the page.
     Rechecked(PageNo, Entry),
     /// It has found another entry, and is to drop the frame.
@@ -32,18 +37,46 @@ pub enum WalkStep {
     Over,
 }
 
-/// Where a walk is that has read the page's entry, and goes on with it.
-pub fn after_reading(page: PageNo, entry: &Entry) -> WalkStep
-    ensures { walk_of result ≡ read page entry.now }
+/// Where a walk is that has come down the page's path so far.
+pub fn on_the_way(page: PageNo, path: &Trail) -> WalkStep
+    ensures { walk_of result ≡ step_at page (trail_of path.now) }
 {
-    WalkStep::Read(page, *entry)
+    match *path {
+        Trail::Root => WalkStep::Ready,
+        _ => WalkStep::Reading(page, *path),
+    }
+}
+
+/// Where a walk is that a word has led to this table, or nowhere.
+pub fn after_link(page: PageNo, path: &Trail, next: Option<TableNo>) -> WalkStep
+    requires { length (trail_of path.now) < 3 }
+    ensures { walk_of result ≡ step_led page (trail_of path.now) next }
+{
+    let Some(table) = next else {
+        return WalkStep::Stopped;
+    };
+    let longer = match *path {
+        Trail::Root => Trail::Third(table),
+        Trail::Third(third) => Trail::Second(table, third),
+        Trail::Second(second, third) | Trail::Last(_, second, third) => Trail::Last(
+            table, second, third,
+        ),
+    };
+    WalkStep::Reading(page, longer)
+}
+
+/// Where a walk is that has read the page's entry, and goes on with it.
+pub fn after_reading(page: PageNo, path: &Trail, entry: &Entry) -> WalkStep
+    ensures { walk_of result ≡ read page (trail_of path.now) entry.now }
+{
+    WalkStep::Read(page, *path, *entry)
 }
 
 /// Where a walk is that has grabbed the entry's frame.
-pub fn after_grab(page: PageNo, entry: &Entry) -> WalkStep
-    ensures { walk_of result ≡ grabbed page entry.now }
+pub fn after_grab(page: PageNo, path: &Trail, entry: &Entry) -> WalkStep
+    ensures { walk_of result ≡ grabbed page (trail_of path.now) entry.now }
 {
-    WalkStep::Grabbed(page, *entry)
+    WalkStep::Grabbed(page, *path, *entry)
 }
 
 /// Where a walk is that has found the entry once more.
@@ -104,4 +137,18 @@ pub fn may_rest(step: &WalkStep) -> bool
         WalkStep::Ready | WalkStep::Stopped => true,
         _ => false,
     }
+}
+
+// Whether these are the same step.
+fn are_same(step: &WalkStep, other: &WalkStep) -> bool
+    ensures { IsTrue result ↔ (step.now ≡ other.now) }
+{
+    *step == *other
+}
+
+/// Whether a walk is in the same place there.
+pub fn is_same_step(step: &WalkStep, other: &WalkStep) -> bool
+    ensures { IsTrue result ↔ (walk_of step.now ≡ walk_of other.now) }
+{
+    are_same(step, other)
 }

@@ -3,3 +3,4 @@ pub mod ObjectLemmas
 pub mod ProcLemmas
 pub mod ClearingLemmas
 pub mod RowLemmas
+pub mod TableLemmas

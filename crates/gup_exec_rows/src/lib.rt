@@ -10,3 +10,4 @@ pub mod procs;
 pub mod row;
 pub mod sheets;
 pub mod stores;
+pub mod tables;

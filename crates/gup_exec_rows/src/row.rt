@@ -4,6 +4,7 @@ ghost use Rattle.gup_plain.specs.Put.{put};
 ghost use Rattle.gup_exec_rows.specs.Row.{at, standing};
 
 use gup_base::{ActorNo, FrameNo, HandleNo, MirrorNo, NoMemory, ProcNo};
+use gup_tables::TableNo;
 use std::alloc::Global;
 use std::marker::Model;
 
@@ -131,6 +132,22 @@ impl<V: Drop> Row<V, 16384> {
         ensures { at self.new ≡ put f value (at self.old) }
     {
         self.set(f.get() as usize, value);
+    }
+}
+
+impl<V: Drop> Row<V, 8192> {
+    /// The value of the page table.
+    pub fn get(&self, table: TableNo) -> &V
+        ensures { result.now ≡ at self.now table }
+    {
+        self.value(table.get() as usize)
+    }
+
+    /// Gives the page table this value.
+    pub fn put(&mut self, table: TableNo, value: V)
+        ensures { at self.new ≡ put table value (at self.old) }
+    {
+        self.set(table.get() as usize, value);
     }
 }
 

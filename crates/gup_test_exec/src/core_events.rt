@@ -73,7 +73,7 @@ fn kept(found: Option<FrameNo>) -> FrameNo {
 impl Run {
     fn new(alloc: Global, seed: u64) -> Result<Run, NoMemory> {
         Ok(Run {
-            trial: Trial::new(alloc, 2, 2, process(0))?,
+            trial: Trial::new(alloc, 2, 2, 0, process(0))?,
             alloc,
             seed,
             happened: [0; 44],

@@ -4,11 +4,14 @@ use gup_exec_jobs::job::Counted;
 use gup_exec_jobs::needs::entry_to;
 use gup_exec_jobs::refused::Refused;
 use gup_exec_jobs::taken::{Taken, same};
+use gup_exec_jobs::trail::Trail;
 use gup_exec_jobs::walk::WalkStep;
 use gup_exec_walk::{
-    drop_first, drop_grab, drop_last, enter_walk, grab_frame, leave_walk, miss_frame, read_again,
-    read_entry, read_mark, read_sequence, recheck_other, recheck_same,
+    add_table, drop_first, drop_grab, drop_last, enter_walk, grab_frame, leave_walk, miss_frame,
+    read_again, read_entry, read_link, read_mark, read_sequence, recheck_above, recheck_other,
+    recheck_same, reclaim, take_out,
 };
+use gup_tables::TableNo;
 use std::alloc::Global;
 use std::str::SplitWhitespace;
 use std::test::Fail;
@@ -22,6 +25,10 @@ struct Run {
     long: bool,
     sequence: u64,
     page: PageNo,
+    depth: u8,
+    third: TableNo,
+    second: TableNo,
+    last: TableNo,
     frame: FrameNo,
     writable: bool,
 }
@@ -46,14 +53,18 @@ fn frame(n: u64) -> FrameNo {
     FrameNo::new(n % 4).unwrap()
 }
 
+fn table(n: u64) -> TableNo {
+    TableNo::new(n % 8).unwrap()
+}
+
 fn handle() -> HandleNo {
     HandleNo::new(0).unwrap()
 }
 
 impl Run {
-    // Two movable frames, two normal ones, and a process that has pinned.
+    // Two movable frames, two normal ones, eight page tables, and a process that has pinned.
     fn new(alloc: Global) -> Result<Run, Refused> {
-        let mut trial = Trial::new(alloc, 2, 2, process(0))?;
+        let mut trial = Trial::new(alloc, 2, 2, 8, process(0))?;
         trial.raise_flag(walker(), process(0))?;
         Ok(Run {
             trial,
@@ -62,6 +73,10 @@ impl Run {
             long: false,
             sequence: 0,
             page: page(0),
+            depth: 0,
+            third: table(0),
+            second: table(0),
+            last: table(0),
             frame: frame(0),
             writable: false,
         })
@@ -79,12 +94,58 @@ impl Run {
             sequence,
         )?;
         self.sequence = sequence;
+        self.depth = 0;
         Ok(())
     }
 
-    // The entry of the page is read, and kept.
+    // The tables that the walk has come down, as far as it has.
+    fn path(&self) -> Trail {
+        match self.depth {
+            0 => Trail::Root,
+            1 => Trail::Third(self.third),
+            2 => Trail::Second(self.second, self.third),
+            _ => Trail::Last(self.last, self.second, self.third),
+        }
+    }
+
+    fn keep(&mut self, table: TableNo) {
+        match self.depth {
+            0 => self.third = table,
+            1 => self.second = table,
+            _ => self.last = table,
+        }
+        self.depth = self.depth.saturating_add(1);
+    }
+
+    // A word of the page's path is read, and the table to which it leads kept.
+    fn read_link(&mut self, page: PageNo) -> Result<(), Refused> {
+        let path = self.path();
+        let found = self.trial.link_at(process(0), &path, page);
+        let (leads, table) = match &found {
+            None => (false, table(0)),
+            Some(table) => (true, *table),
+        };
+        read_link(
+            &mut self.trial,
+            walker(),
+            process(0),
+            self.write,
+            self.long,
+            self.sequence,
+            page,
+            path,
+            found,
+        )?;
+        if leads {
+            self.keep(table);
+        }
+        Ok(())
+    }
+
+    // The entry at the end of the page's path is read, and kept.
     fn read_entry(&mut self, page: PageNo) -> Result<(), Refused> {
-        let was = self.trial.entry.get(process(0), page);
+        let path = self.path();
+        let was = self.trial.entry_at(process(0), &path, page);
         let (frame, writable) = match &was {
             None => (frame(0), false),
             Some(entry) => (entry.frame, entry.writable),
@@ -97,6 +158,7 @@ impl Run {
             self.long,
             self.sequence,
             page,
+            path,
             was,
         )?;
         self.page = page;
@@ -105,7 +167,44 @@ impl Run {
         Ok(())
     }
 
+    // The page's path is read down to its entry.
+    fn read_down(&mut self, page: PageNo) -> Result<(), Refused> {
+        self.depth = 0;
+        for _level in 0..3 {
+            self.read_link(page)?;
+        }
+        self.read_entry(page)
+    }
+
+    // The word above is read again. Whether it still leads to the last table.
+    fn recheck_above(&mut self) -> Result<bool, Refused> {
+        let path = self.path();
+        let same = self.trial.leads_still(process(0), &path, self.page);
+        recheck_above(
+            &mut self.trial,
+            walker(),
+            process(0),
+            self.write,
+            self.long,
+            self.sequence,
+            self.page,
+            path,
+            entry_to(self.frame, self.writable),
+            same,
+        )?;
+        Ok(same)
+    }
+
+    // All tables of the page's path are added, the ones with the lowest numbers.
+    fn add_tables(&mut self, a: ActorNo, p: ProcNo, page: PageNo) -> Result<(), Refused> {
+        for k in 0..4 {
+            add_table(&mut self.trial, a, p, page, table(k))?;
+        }
+        Ok(())
+    }
+
     fn grab_frame(&mut self) -> Result<(), Refused> {
+        let path = self.path();
         grab_frame(
             &mut self.trial,
             walker(),
@@ -114,11 +213,13 @@ impl Run {
             self.long,
             self.sequence,
             self.page,
+            path,
             entry_to(self.frame, self.writable),
         )
     }
 
     fn miss_frame(&mut self) -> Result<(), Refused> {
+        let path = self.path();
         miss_frame(
             &mut self.trial,
             walker(),
@@ -127,11 +228,13 @@ impl Run {
             self.long,
             self.sequence,
             self.page,
+            path,
             entry_to(self.frame, self.writable),
         )
     }
 
     fn recheck_same(&mut self) -> Result<(), Refused> {
+        let path = self.path();
         recheck_same(
             &mut self.trial,
             walker(),
@@ -140,11 +243,13 @@ impl Run {
             self.long,
             self.sequence,
             self.page,
+            path,
             entry_to(self.frame, self.writable),
         )
     }
 
     fn recheck_other(&mut self) -> Result<(), Refused> {
+        let path = self.path();
         recheck_other(
             &mut self.trial,
             walker(),
@@ -153,6 +258,7 @@ impl Run {
             self.long,
             self.sequence,
             self.page,
+            path,
             entry_to(self.frame, self.writable),
         )
     }
@@ -254,9 +360,11 @@ impl Run {
         Some(match verb {
             "enter" => self.enter_walk(object == "write", object == "long"),
             "sequence" => self.read_sequence(),
-            "entry" => self.read_entry(page(number(object))),
+            "link" => self.read_link(page(number(object))),
+            "entry" => self.read_down(page(number(object))),
             "grab" => self.grab_frame(),
             "miss" => self.miss_frame(),
+            "above" => self.recheck_above().map(|_same| ()),
             "same" => self.recheck_same(),
             "other" => self.recheck_other(),
             "mark" => self.read_mark(),
@@ -329,6 +437,9 @@ impl Run {
                 self.trial.drop_entry(a, p, page(n), was)
             }
             "put" => self.trial.put_entry(a, frame(n)),
+            "tables" => self.add_tables(a, p, page(n)),
+            "detach" => take_out(&mut self.trial, a, p, page(n), table(f)),
+            "reclaim" => reclaim(&mut self.trial, a, p),
             _ => return self.relocate(verb, n, f, m),
         })
     }
@@ -417,10 +528,10 @@ fn first_wrong(alloc: Global, script: &str) -> Result<Option<u32>, Refused> {
 // The walk over two pages counts a pin of each frame, and what it has taken becomes the handle's.
 #[test]
 fn an_undisturbed_walk_ends_in_a_handle(rt: HostRuntime) -> Result<(), Fail> {
-    let script = "map 0, take 2, fill 0 2, \
+    let script = "map 0, tables 0, take 2, fill 0 2, \
         map 1, take 3, fill 1 3, upgrade 1 3, \
-        enter read, sequence, entry 0, grab, same, mark, counts 0 0 1025 1, \
-        entry 1, grab, same, mark, taken 0 2 0 1 3 1, cannot entry 1, \
+        enter read, sequence, entry 0, grab, above, same, mark, counts 0 0 1025 1, \
+        entry 1, grab, above, same, mark, taken 0 2 0 1 3 1, cannot entry 1, \
         again, leave, handle, counts 0 0 1025 1025, taken, held";
     let wrong = first_wrong(rt.alloc(), script).or(Err("memory"))?;
     assert_eq!(rt; wrong, None);
@@ -430,7 +541,7 @@ fn an_undisturbed_walk_ends_in_a_handle(rt: HostRuntime) -> Result<(), Fail> {
 // While a fork runs, the sequence is odd: a walk that reads it is over, and has taken nothing.
 #[test]
 fn a_walk_is_over_at_an_odd_sequence(rt: HostRuntime) -> Result<(), Fail> {
-    let script = "map 0, take 2, fill 0 2, \
+    let script = "map 0, tables 0, take 2, fill 0 2, \
         begin, enter read, sequence, cannot entry 0, leave, counts 0 0 1 0, taken";
     let wrong = first_wrong(rt.alloc(), script).or(Err("memory"))?;
     assert_eq!(rt; wrong, None);
@@ -441,11 +552,11 @@ fn a_walk_is_over_at_an_odd_sequence(rt: HostRuntime) -> Result<(), Fail> {
 // takes the frame that a long one doesn't.
 #[test]
 fn a_walk_stops_at_an_entry_that_is_not_right(rt: HostRuntime) -> Result<(), Fail> {
-    let script = "map 0, take 0, fill 0 0, \
+    let script = "map 0, tables 0, take 0, fill 0 0, \
         enter read, sequence, entry 1, cannot grab, again stopped, leave, counts 1 0 0 0, taken, \
         enter write, sequence, entry 0, cannot grab, again stopped, leave, counts 1 0 0 0, taken, \
         enter long, sequence, entry 0, cannot grab, again stopped, leave, counts 1 0 0 0, taken, \
-        enter read, sequence, entry 0, grab, same, mark, counts 1025 0 0 0, taken 0 0 0";
+        enter read, sequence, entry 0, grab, above, same, mark, counts 1025 0 0 0, taken 0 0 0";
     let wrong = first_wrong(rt.alloc(), script).or(Err("memory"))?;
     assert_eq!(rt; wrong, None);
     Ok(())
@@ -454,7 +565,7 @@ fn a_walk_stops_at_an_entry_that_is_not_right(rt: HostRuntime) -> Result<(), Fai
 // The page is unmapped after the reading of its entry. Its frame is free, and isn't grabbed.
 #[test]
 fn a_free_frame_is_not_grabbed(rt: HostRuntime) -> Result<(), Fail> {
-    let script = "map 0, take 2, fill 0 2, \
+    let script = "map 0, tables 0, take 2, fill 0 2, \
         enter read, sequence, entry 0, \
         unmap 0, put 2, \
         cannot grab, miss, again stopped, leave, counts 0 0 0 0, taken";
@@ -466,10 +577,10 @@ fn a_free_frame_is_not_grabbed(rt: HostRuntime) -> Result<(), Fail> {
 // The page is unmapped after the grab: the recheck finds no entry, and the frame is free once the grab is dropped.
 #[test]
 fn a_grab_is_dropped_where_the_entry_is_another(rt: HostRuntime) -> Result<(), Fail> {
-    let script = "map 0, take 2, fill 0 2, \
+    let script = "map 0, tables 0, take 2, fill 0 2, \
         enter read, sequence, entry 0, grab, \
         unmap 0, put 2, counts 0 0 1024 0, \
-        cannot same, other, drop grab, counts 0 0 0 0, again stopped, leave, taken";
+        above, cannot same, other, drop grab, counts 0 0 0 0, again stopped, leave, taken";
     let wrong = first_wrong(rt.alloc(), script).or(Err("memory"))?;
     assert_eq!(rt; wrong, None);
     Ok(())
@@ -478,9 +589,9 @@ fn a_grab_is_dropped_where_the_entry_is_another(rt: HostRuntime) -> Result<(), F
 // A frame that a fork has shared isn't marked: the page is taken by the recheck, and dropped.
 #[test]
 fn an_unmarked_frame_is_dropped(rt: HostRuntime) -> Result<(), Fail> {
-    let script = "map 0, take 2, fill 0 2, \
+    let script = "map 0, tables 0, take 2, fill 0 2, \
         begin, count 0 2, lower 0 2, unmark 0 2, child 0 2, finish 0, \
-        enter read, sequence, entry 0, grab, same, counts 0 0 1026 0, taken 0 2 0, \
+        enter read, sequence, entry 0, grab, above, same, counts 0 0 1026 0, taken 0 2 0, \
         mark, cannot again, drop last, again stopped, leave, counts 0 0 2 0, taken";
     let wrong = first_wrong(rt.alloc(), script).or(Err("memory"))?;
     assert_eq!(rt; wrong, None);
@@ -491,11 +602,11 @@ fn an_unmarked_frame_is_dropped(rt: HostRuntime) -> Result<(), Fail> {
 // marked, but the sequence has changed: it drops that page and the one that it took before.
 #[test]
 fn a_fork_makes_a_walk_drop_all(rt: HostRuntime) -> Result<(), Fail> {
-    let script = "map 0, take 2, fill 0 2, \
+    let script = "map 0, tables 0, take 2, fill 0 2, \
         map 1, take 3, fill 1 3, \
-        enter read, sequence, entry 1, grab, same, mark, entry 0, \
+        enter read, sequence, entry 1, grab, above, same, mark, entry 0, \
         begin, count 0 2, \
-        grab, same, mark, \
+        grab, above, same, mark, \
         lower 0 2, unmark 0 2, child 0 2, counts 0 0 1026 1025, taken 1 3 1 0 2 0, \
         again, cannot leave, drop first, counts 0 0 1026 1, taken 0 2 0, \
         cannot leave, drop first, leave, counts 0 0 2 1, taken";
@@ -507,12 +618,12 @@ fn a_fork_makes_a_walk_drop_all(rt: HostRuntime) -> Result<(), Fail> {
 // A mover that has cleared the entry finds the grab in the count, and puts the entry back. The walk takes the page.
 #[test]
 fn a_mover_meets_a_grab(rt: HostRuntime) -> Result<(), Fail> {
-    let script = "map 0, take 2, fill 0 2, \
+    let script = "map 0, tables 0, take 2, fill 0 2, \
         enter read, sequence, entry 0, \
         clear 0 2, \
         grab, \
         cannot read 0 2 1, read 0 2 1025, cannot take 3, restore 0 2 1025, \
-        same, mark, again, leave, counts 0 0 1025 0, taken 0 2 0";
+        above, same, mark, again, leave, counts 0 0 1025 0, taken 0 2 0";
     let wrong = first_wrong(rt.alloc(), script).or(Err("memory"))?;
     assert_eq!(rt; wrong, None);
     Ok(())
@@ -521,12 +632,12 @@ fn a_mover_meets_a_grab(rt: HostRuntime) -> Result<(), Fail> {
 // A mover counts before the grab, and gives the page another frame. The walk finds that, and drops the old one.
 #[test]
 fn a_walk_meets_a_moved_page(rt: HostRuntime) -> Result<(), Fail> {
-    let script = "map 0, take 2, fill 0 2, \
+    let script = "map 0, tables 0, take 2, fill 0 2, \
         enter read, sequence, entry 0, \
         clear 0 2, read 0 2 1, take 3, \
         grab, \
         place 0 2 3, put 2, counts 0 0 1024 1, \
-        cannot same, other, drop grab, again stopped, leave, counts 0 0 0 1, taken";
+        above, cannot same, other, drop grab, again stopped, leave, counts 0 0 0 1, taken";
     let wrong = first_wrong(rt.alloc(), script).or(Err("memory"))?;
     assert_eq!(rt; wrong, None);
     Ok(())
@@ -536,12 +647,12 @@ fn a_walk_meets_a_moved_page(rt: HostRuntime) -> Result<(), Fail> {
 // no entry, and leaves the frame to its new owner.
 #[test]
 fn a_frame_that_was_taken_again_is_dropped(rt: HostRuntime) -> Result<(), Fail> {
-    let script = "begin, end, map 0, take 2, fill 0 2, \
+    let script = "begin, end, map 0, tables 0, take 2, fill 0 2, \
         enter read, sequence, entry 0, \
         unmap 0, put 2, counts 0 0 0 0, \
         second map 0, second take 2, second fill 0 2, \
         grab, counts 0 0 1025 0, \
-        cannot same, other, drop grab, again stopped, leave, counts 0 0 1 0, marked 2, taken";
+        above, cannot same, other, drop grab, again stopped, leave, counts 0 0 1 0, marked 2, taken";
     let wrong = first_wrong(rt.alloc(), script).or(Err("memory"))?;
     assert_eq!(rt; wrong, None);
     Ok(())
@@ -551,10 +662,36 @@ fn a_frame_that_was_taken_again_is_dropped(rt: HostRuntime) -> Result<(), Fail> 
 // entry equal, and takes the object that the page names now.
 #[test]
 fn a_page_that_was_mapped_again_is_taken_anew(rt: HostRuntime) -> Result<(), Fail> {
-    let script = "map 0, take 2, fill 0 2, \
+    let script = "map 0, tables 0, take 2, fill 0 2, \
         enter read, sequence, entry 0, \
         unmap 0, put 2, map 0, take 2, fill 0 2, \
-        grab, same, mark, again, leave, counts 0 0 1025 0, taken 0 2 1";
+        grab, above, same, mark, again, leave, counts 0 0 1025 0, taken 0 2 1";
+    let wrong = first_wrong(rt.alloc(), script).or(Err("memory"))?;
+    assert_eq!(rt; wrong, None);
+    Ok(())
+}
+
+// The page is unmapped after the grab, and the table of its entry taken out. The word above leads there no more, and the
+// grab is dropped. The table comes free when the walk is over.
+#[test]
+fn a_walk_meets_a_table_that_was_taken_out(rt: HostRuntime) -> Result<(), Fail> {
+    let script = "map 0, tables 0, take 2, fill 0 2, \
+        enter read, sequence, entry 0, grab, \
+        cannot detach 0 3, unmap 0, put 2, detach 0 3, counts 0 0 1024 0, \
+        cannot reclaim, above, cannot same, cannot other, drop grab, counts 0 0 0 0, \
+        again stopped, leave, taken, reclaim";
+    let wrong = first_wrong(rt.alloc(), script).or(Err("memory"))?;
+    assert_eq!(rt; wrong, None);
+    Ok(())
+}
+
+// A table is taken out while the walk is inside of it: no word of it leads on, and the walk stops.
+#[test]
+fn a_walk_stops_in_a_table_that_was_taken_out(rt: HostRuntime) -> Result<(), Fail> {
+    let script = "map 0, tables 0, take 2, fill 0 2, \
+        enter read, sequence, link 0, link 0, \
+        unmap 0, put 2, detach 0 3, detach 0 2, \
+        cannot again, link 0, cannot link 0, again stopped, leave, taken, reclaim";
     let wrong = first_wrong(rt.alloc(), script).or(Err("memory"))?;
     assert_eq!(rt; wrong, None);
     Ok(())
