@@ -169,7 +169,7 @@ module _ (ops : List Op) (s : PlainState) (references : References) (who : Doer)
 
   -- a turn of a walk
   walk_goes : (handle page n : ℕ) (want : Want) {first m got sequence : ℕ} {write : Bool} {step : WalkStep} {whats : List What} {to : JobPlace} → WalksTo s who first m got write sequence step whats to → slice_get ops place.answered ≡ Some (Pin handle page n want true) → Goes ops p s place g whats
-  walk_goes handle page n want {first = first} {got = got} {write = write} (took_page h e less) is = event_goes ops p s place g (Some (Pin handle page n want true)) is (events.PinTry who.actor who.proc (first + got) write) tt tt
+  walk_goes handle page n want {first = first} {got = got} {write = write} (took_page h path e less) is = event_goes ops p s place g (Some (Pin handle page n want true)) is (events.PinTry who.actor who.proc (first + got) write) tt tt
   walk_goes handle page n want (dropped_page h last some most from) is = event_goes ops p s place g (Some (Pin handle page n want true)) is (events.PinDrop who.actor h) tt tt
   walk_goes handle page n want (dropped_first h more from) is = event_goes ops p s place g (Some (Pin handle page n want true)) is (events.PinDrop who.actor h) tt tt
   walk_goes handle page n want (dropped_last h one from) is = event_goes ops p s place g (Some (Pin handle page n want true)) is (events.PinDrop who.actor h) tt tt

@@ -27,7 +27,7 @@ use Rattle.gup_law_costs.proofs.ForkBounds.{IsSpent}
 use Rattle.gup_law_turns.proofs.PinPace.{pin_left}
 use Rattle.gup_law_turns.proofs.MappedCounts.{mapped_lost}
 use Rattle.gup_law_turns.proofs.Puts.{put_same, put_other, put_own, some_same}
-use Rattle.gup_law_turns.proofs.ReachedStates.{IsReached, Published, is_standing, reached_on}
+use Rattle.gup_law_turns.proofs.ReachedStates.{IsReached, Published, StaysInside, is_standing, reached_on}
 use Rattle.gup_law_turns.proofs.TurnShapes.{FitsMove, FitsOp, FitsAt, child_of}
 use Rattle.gup_law_costs.proofs.TurnCosts.{idle_by, next_place, spent_turn, fork_stays}
 use Rattle.gup_law_turns.proofs.StandingTurns.{at_others}
@@ -131,7 +131,7 @@ few_behind : (script : ScriptValue) (r : RunState) → Stands script r → (p : 
 few_behind script r h p = let mapped = h.few.mapped p in let most = h.few.pages p in omega (arith, mapped, most)
 
 -- the turn of actor b, which does this operation
-module _ (law : Law) (published : Published) (script : ScriptValue) (valid : IsScript script) (r : RunState) (h : IsReached script r) (b : ℕ) (op : Op) (is : op_in script r b ≡ Some op) (free : waiting_in script r b ≡ None) (within : AreWithin script r.core r.places) where
+module _ (law : Law) (inside : StaysInside) (published : Published) (script : ScriptValue) (valid : IsScript script) (r : RunState) (h : IsReached script r) (b : ℕ) (op : Op) (is : op_in script r b ≡ Some op) (free : waiting_in script r b ≡ None) (within : AreWithin script r.core r.places) where
   abbrev t : CoreState
   t = run r.core (core_turn_in script r b).events
 
@@ -151,7 +151,7 @@ module _ (law : Law) (published : Published) (script : ScriptValue) (valid : IsS
   spent = spent_turn script valid r stands b op is free
 
   few : (p : ℕ) → mapped_pages (t.right p) ≤ most_pages
-  few p = few_behind script (run_after script r b) (reached_on law script valid r h b).stands p
+  few p = few_behind script (run_after script r b) (reached_on law inside script valid r h b).stands p
 
   -- an exit at its first turn
   first_exit : (p far : ℕ) → far ≡ 0 → far + mapped_pages (t.right p) + yet ≤ most_pages + map_pages script
@@ -247,8 +247,8 @@ module _ (law : Law) (published : Published) (script : ScriptValue) (valid : IsS
       (λ a other. other_within a (grind (arith, nat_tests)))
 
 -- after the turn of any actor
-within_on : Law → Published → (script : ScriptValue) → IsScript script → (r : RunState) → IsReached script r → (b : ℕ) → AreWithin script r.core r.places → AreWithin script (run_after script r b).core (run_after script r b).places
-within_on law published script valid r h b within = by_parts (op_in script r b) (waiting_in script r b) refl refl
+within_on : Law → StaysInside → Published → (script : ScriptValue) → IsScript script → (r : RunState) → IsReached script r → (b : ℕ) → AreWithin script r.core r.places → AreWithin script (run_after script r b).core (run_after script r b).places
+within_on law inside published script valid r h b within = by_parts (op_in script r b) (waiting_in script r b) refl refl
   where
     stays : is_ready (op_in script r b) (waiting_in script r b) ≡ false → AreWithin script (run_after script r b).core (run_after script r b).places
     stays rests =
@@ -260,7 +260,7 @@ within_on law published script valid r h b within = by_parts (op_in script r b) 
     by_parts : (o : Option Op) (w : Option Waiting) → op_in script r b ≡ o → waiting_in script r b ≡ w → AreWithin script (run_after script r b).core (run_after script r b).places
     by_parts None w is free = stays (ap (λ (o : Option Op). is_ready o (waiting_in script r b)) is)
     by_parts (Some op) (Some waiting) is free = stays (ap (λ (o : Option Op). is_ready o (waiting_in script r b)) is ∙ ap (is_ready (Some op)) free)
-    by_parts (Some op) None is free = turn_within law published script valid r h b op is free within
+    by_parts (Some op) None is free = turn_within law inside published script valid r h b op is free within
 
 -- at the start no operation has a turn after it
 pub within_first : (script : ScriptValue) → IsReached script (run_start script) → AreWithin script (run_start script).core (run_start script).places
@@ -313,7 +313,7 @@ few_turns published script valid r h within a op is = go op is (subst (λ (o : O
     go op is fits = let first = fits.1.0 in omega (arith, first)
 
 -- after turns of any actors
-pub within_turned : Law → Published → (script : ScriptValue) → IsScript script → (actors : List ℕ) (r : RunState) → IsReached script r → AreWithin script r.core r.places → (a : ℕ) (op : Op) → op_in script (turned script r actors) a ≡ Some op → ((turned script r actors).places a).far < most_turns_of script op
-within_turned law published script valid [] r h within a op is = few_turns published script valid r h within a op is
-within_turned law published script valid (b ∷ actors) r h within a op is =
-    within_turned law published script valid actors (run_after script r b) (reached_on law script valid r h b) (within_on law published script valid r h b within) a op is
+pub within_turned : Law → StaysInside → Published → (script : ScriptValue) → IsScript script → (actors : List ℕ) (r : RunState) → IsReached script r → AreWithin script r.core r.places → (a : ℕ) (op : Op) → op_in script (turned script r actors) a ≡ Some op → ((turned script r actors).places a).far < most_turns_of script op
+within_turned law inside published script valid [] r h within a op is = few_turns published script valid r h within a op is
+within_turned law inside published script valid (b ∷ actors) r h within a op is =
+    within_turned law inside published script valid actors (run_after script r b) (reached_on law inside script valid r h b) (within_on law inside published script valid r h b within) a op is

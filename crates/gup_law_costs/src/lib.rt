@@ -37,4 +37,5 @@ pub fn turns_are_bounded()
     gup_law_events::simulates();
     gup_law_events::starts_sound();
     gup_law_events::sound_states_hold();
+    gup_law_tables::walks_stand_in_tables();
 }

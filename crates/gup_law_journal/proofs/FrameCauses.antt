@@ -21,7 +21,8 @@ use Rattle.gup_plain.specs.Event.{may_write, words}
 use Rattle.gup_script.specs.declared.op.Op.{Op}
 use Rattle.gup_script.specs.declared.op.Op.TheVariants.{Map, Unmap, Protect, Discard, Load, Store, Pin, Unpin, Give, Take, Get, Put, Transfer, Mirror, Look, Fork, Exit, Move}
 use Rattle.gup_spec_events.specs.State.{CoreState, Job, idle, moving, Counted, unread, one as counted_one, more as counted_more, forking, between, counted, copying, walking, Taken, WalkStep, ready, read, grabbed, refused as refused_step, dropping}
-use Rattle.gup_spec_events.specs.Event.{CoreEvent, has_tables, upgrade, restore_entry, run}
+use Rattle.gup_spec_tables.specs.Paths.{entry_at, leads_still}
+use Rattle.gup_spec_events.specs.Event.{CoreEvent, tree_in, has_tables, upgrade, restore_entry, run}
 use Rattle.gup_spec_events.specs.Fault.{Fault, fills, unshares, unshare_fault, read_fault, write_fault, fills_writable, breaks, makes_writable, marks}
 use Rattle.gup_spec_journal.specs.Denial.{has_reference}
 use Rattle.gup_spec_journal.specs.Follows.{refuses}
@@ -507,13 +508,14 @@ module _ (s : CoreState) (a p : ℕ) where
   ready_cause handle page n want sequence true = ((λ e. absurd e), tt)
   ready_cause handle page n want sequence false = all_cause handle n want sequence (s.sequence p) (s.sequence p == sequence)
 
-  grab_cause : (want : Want) (sequence g : ℕ) (e : Entry) (count : ℕ) → NeverWants (grab_turn a p want sequence g e count)
-  grab_cause want sequence g e zero = ((λ e. absurd e), tt)
-  grab_cause want sequence g e (suc count) = ((λ e. absurd e), tt)
+  grab_cause : (want : Want) (sequence g : ℕ) (path : List ℕ) (e : Entry) (count : ℕ) → NeverWants (grab_turn a p want sequence g path e count)
+  grab_cause want sequence g path e zero = ((λ e. absurd e), tt)
+  grab_cause want sequence g path e (suc count) = ((λ e. absurd e), tt)
 
-  recheck_cause : (want : Want) (sequence g : ℕ) (e : Entry) (same : Bool) → NeverWants (recheck_turn a p want sequence g e same)
-  recheck_cause want sequence g e true = ((λ e. absurd e), tt)
-  recheck_cause want sequence g e false = ((λ e. absurd e), tt)
+  recheck_cause : (want : Want) (sequence g : ℕ) (path : List ℕ) (e : Entry) (leads same : Bool) → NeverWants (recheck_turn a p want sequence g path e leads same)
+  recheck_cause want sequence g path e true true = ((λ e. absurd e), tt)
+  recheck_cause want sequence g path e true false = ((λ e. absurd e), tt)
+  recheck_cause want sequence g path e false same = ((λ e. absurd e), tt)
 
   last_cause : (want : Want) (sequence : ℕ) (split : Option (List Taken × Taken)) → NeverWants (last_turn a p want sequence split)
   last_cause want sequence None = ((λ e. absurd e), tt)
@@ -526,8 +528,9 @@ module _ (s : CoreState) (a p : ℕ) where
   walk_cause : (handle page n : ℕ) (want : Want) (sequence : ℕ) (step : WalkStep) → NeverWants (walk_turn s a p handle page n want sequence step)
   walk_cause handle page n want sequence ready =
       ready_cause handle (page + length (s.taken a)) n want sequence (nat_lt (length (s.taken a)) n)
-  walk_cause handle page n want sequence (read g e) = grab_cause want sequence g e (s.count e.frame)
-  walk_cause handle page n want sequence (grabbed g e) = recheck_cause want sequence g e (is_same e (s.entry p g))
+  walk_cause handle page n want sequence (read g path e) = grab_cause want sequence g path e (s.count e.frame)
+  walk_cause handle page n want sequence (grabbed g path e) =
+      recheck_cause want sequence g path e (leads_still (tree_in s p) path g) (is_same e (entry_at (tree_in s p) path g))
   walk_cause handle page n want sequence refused_step = last_cause want sequence (split_last (s.taken a))
   walk_cause handle page n want sequence dropping = first_cause want sequence (s.taken a)
   walk_cause handle page n want sequence step = ((λ e. absurd e), tt)

@@ -6,7 +6,7 @@ use Rattle.gup_plain.specs.State.{PlainState, Pending}
 use Rattle.gup_plain.specs.declared.event.PlainEvent.TheVariants as events
 use Rattle.gup_plain.specs.declared.note.What.{What}
 use Rattle.gup_plain.specs.declared.note.What.TheVariants.{Silent, Event}
-use Rattle.gup_spec_events.specs.State.{WalkStep, entered, ready, read, grabbed, rechecked, differed, refused, stopped, dropping, over}
+use Rattle.gup_spec_events.specs.State.{WalkStep, entered, ready, reading, read, grabbed, rechecked, differed, refused, stopped, dropping, over}
 use Rattle.gup_spec_journal.specs.Follows.{Who, IsTurn, AreBehind, Then, Turns, at_entry, at_frame, at_entry_again, at_mark, drops_pages, DropsAll, StopsWalk, WalksOn, notes_of_turn}
 use Rattle.gup_spec_journal.specs.Order.{plain_behind}
 use Rattle.gup_spec_journal.specs.Place.{Place, Doer, place_behind}
@@ -65,8 +65,9 @@ module _ (who : Who) (page n : ℕ) (write : Bool) (All : List NoteValue → Typ
   abbrev pub WalkRest : (got first : ℕ) → WalkStep → List NoteValue → Type 0
   WalkRest got first entered notes = Silently (λ rest. Slowly got (n - got) rest ⊎ GoesOn got rest) notes
   WalkRest got first ready notes = GoesOn got notes
-  WalkRest got first (read g e) notes = Grabs got notes
-  WalkRest got first (grabbed g e) notes = ReadsAgain got notes
+  WalkRest got first (reading g path) notes = ⊥
+  WalkRest got first (read g path e) notes = Grabs got notes
+  WalkRest got first (grabbed g path e) notes = ReadsAgain got notes
   WalkRest got first (rechecked g e) notes = LooksAtMark (got - 1) notes
   WalkRest got first (differed f) notes = Silently (Stops got) notes
   WalkRest got first refused notes = Drops (got - 1) notes
@@ -136,7 +137,7 @@ module _ (d : Doer) (number t page n : ℕ) (write : Bool) (All : List NoteValue
   walk_before {s = s} (found_sequence again) front after rest =
       let got : ℕ = pages_got s d.actor in
       in_front (Silent ∷ []) (Silent ∷ []) (λ (ns : List NoteValue). Slowly got (n - got) ns ⊎ GoesOn who page n write All Slowly got ns) front refl after (inr rest)
-  walk_before {s = s} (found_entry g e less) front after rest =
+  walk_before {s = s} (found_entry g path e less) front after rest =
       let got : ℕ = pages_got s d.actor in
       goes_on who page n write All Slowly got (now (Silent ∷ []) ++ front) less
       (in_front (Silent ∷ []) (Silent ∷ []) (λ (ns : List NoteValue). Grabs who page n write All Slowly got ns ⊎ Stops who page n write All Slowly got ns) front refl after (inl rest))
@@ -144,19 +145,19 @@ module _ (d : Doer) (number t page n : ℕ) (write : Bool) (All : List NoteValue
       let got : ℕ = pages_got s d.actor in
       goes_on who page n write All Slowly got (now (Silent ∷ []) ++ front) less
       (in_front (Silent ∷ []) (Silent ∷ []) (λ (ns : List NoteValue). Grabs who page n write All Slowly got ns ⊎ Stops who page n write All Slowly got ns) front refl after (inr rest))
-  walk_before {s = s} (grabbed_frame g e less) front after rest =
+  walk_before {s = s} (grabbed_frame g path e less) front after rest =
       let got : ℕ = pages_got s d.actor in
       in_front (Silent ∷ []) (Silent ∷ []) (λ (ns : List NoteValue). ReadsAgain who page n write All Slowly got ns ⊎ Stops who page n write All Slowly got ns) front refl after (inl rest)
-  walk_before {s = s} (found_free g e less) front after rest =
+  walk_before {s = s} (found_free g path e less) front after rest =
       let got : ℕ = pages_got s d.actor in
       in_front (Silent ∷ []) (Silent ∷ []) (λ (ns : List NoteValue). ReadsAgain who page n write All Slowly got ns ⊎ Stops who page n write All Slowly got ns) front refl after (inr rest)
-  walk_before {s = s} (took_page g e less) front after rest =
+  walk_before {s = s} (took_page g path e less) front after rest =
       let got : ℕ = pages_got s d.actor in
       let whats : List What = Event (events.PinTry d.actor d.proc (page + got) write) ∷ [] in
       let grown = one_pending s d.actor d.proc (page + got) write in
       let kept : pages_got (plain_behind s whats) d.actor - 1 ≡ got = omega (arith, grown) in
       inl (in_front whats whats (LooksAtMark who page n write All Slowly got) front refl after (subst (λ (k : ℕ). LooksAtMark who page n write All Slowly k front) kept rest))
-  walk_before {s = s} (found_other g e less) front after rest =
+  walk_before {s = s} (found_other g path e less) front after rest =
       let got : ℕ = pages_got s d.actor in
       inr (in_front (Silent ∷ []) (Silent ∷ []) (Silently who page n write All Slowly (Stops who page n write All Slowly got)) front refl after rest)
   walk_before {s = s} (found_mark g e some) front after rest =

@@ -10,8 +10,10 @@ use Rattle.gup_plain.specs.Denial.{pin_denial}
 use Rattle.gup_plain.specs.Put.{put2}
 use Rattle.gup_plain.specs.declared.answer.Answer.{Answer}
 use Rattle.gup_plain.specs.declared.answer.Answer.TheVariants as answers
+use Rattle.gup_spec_tables.specs.Paths.{link_at, entry_at, leads_still}
 use Rattle.gup_spec_events.specs.State.{CoreState, Taken, Job, moving, walking, Counted, unread, one, more, WalkStep, entered, ready, read, grabbed, refused, stopped, dropping}
-use Rattle.gup_spec_events.specs.Event.{CoreEvent, is_odd, run, entry_of, take_frame, fill, upgrade, put_entry, break_entry, clear_entry, pin_page, make_handle, raise_flag, restore_entry}
+use Rattle.gup_spec_events.specs.Event.{CoreEvent, is_odd, run, entry_of, take_frame, fill, upgrade, put_entry, break_entry, clear_entry, pin_page, make_handle, raise_flag, restore_entry, tree_in}
+use Rattle.gup_spec_events.specs.Descent.{led_on, reads_on}
 use Rattle.gup_spec_events.specs.Fault.{Fault, breaks, marks, makes_writable, write_fault, unshares, unshare_fault}
 use Rattle.gup_spec_turns.specs.CoreTurn.{entry_in, free_in, frame_for, zones_of}
 use Rattle.gup_spec_turns.specs.Emptying.{PageRange, one_page, has_page}
@@ -198,6 +200,17 @@ module _ (s : CoreState) (a p : ℕ) where
   left_if true want sequence q g some = refl
   left_if false want sequence q g some = refl
 
+  -- what a walk reads down a path invalidates nothing
+
+  led_down : (want : Want) (sequence page n : ℕ) (path : List ℕ) (next : Option ℕ) → ((table : ℕ) → Invalidates s (reads_on (tree_in s p) a p want.write want.long sequence page n (table ∷ path)) None) → Invalidates s (led_on (λ table. reads_on (tree_in s p) a p want.write want.long sequence page n (table ∷ path)) next) None
+  led_down want sequence page n path None reads = λ q g some. refl
+  led_down want sequence page n path (Some table) reads = reads table
+
+  read_down : (want : Want) (sequence page n : ℕ) (path : List ℕ) → Invalidates s (reads_on (tree_in s p) a p want.write want.long sequence page n path) None
+  read_down want sequence page zero path = λ q g some. refl
+  read_down want sequence page (suc n) path =
+      led_down want sequence page n path (link_at (tree_in s p) path page) (λ table. read_down want sequence page n (table ∷ path))
+
   walked : (handle page n : ℕ) (want : Want) (sequence : ℕ) (step : WalkStep) → Invalidates s (walk_turn s a p handle page n want sequence step).events None
   walked handle page n want sequence entered = left_if (is_odd (s.sequence p)) want (s.sequence p)
   walked handle page n want sequence ready = by_left (nat_lt (length (s.taken a)) n)
@@ -207,18 +220,20 @@ module _ (s : CoreState) (a p : ℕ) where
       all_taken false q g some = refl
 
       by_left : (more : Bool) → Invalidates s (ready_turn s a p handle (page + length (s.taken a)) n want sequence more).events None
-      by_left true q g some = refl
-      by_left false q g some = all_taken (s.sequence p == sequence) q g some
-  walked handle page n want sequence (read h e) = by_count (s.count e.frame)
+      by_left true = read_down want sequence (page + length (s.taken a)) 3 []
+      by_left false = all_taken (s.sequence p == sequence)
+  walked handle page n want sequence (read h path e) = by_count (s.count e.frame)
     where
-      by_count : (count : ℕ) → Invalidates s (grab_turn a p want sequence h e count).events None
+      by_count : (count : ℕ) → Invalidates s (grab_turn a p want sequence h path e count).events None
       by_count zero q g some = refl
       by_count (suc count) q g some = refl
-  walked handle page n want sequence (grabbed h e) = by_entry (is_same e (s.entry p h))
+  walked handle page n want sequence (grabbed h path e) =
+      by_entry (leads_still (tree_in s p) path h) (is_same e (entry_at (tree_in s p) path h))
     where
-      by_entry : (same : Bool) → Invalidates s (recheck_turn a p want sequence h e same).events None
-      by_entry true q g some = refl
-      by_entry false q g some = refl
+      by_entry : (leads same : Bool) → Invalidates s (recheck_turn a p want sequence h path e leads same).events None
+      by_entry true true q g some = refl
+      by_entry true false q g some = refl
+      by_entry false same q g some = refl
   walked handle page n want sequence refused = by_last (split_last (s.taken a))
     where
       by_last : (last : Option (List Taken × Taken)) → Invalidates s (last_turn a p want sequence last).events None

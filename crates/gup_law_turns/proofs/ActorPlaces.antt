@@ -28,7 +28,7 @@ pub data IsBehindTurn (t : CoreState) (who : Doer) (op : Option Op) (place : Pla
 
 -- a walk goes on with each of its turns but the one that makes the handle
 walk_behind : (t : CoreState) (o : Option Op) {s : PlainState} {who : Doer} {page n got sequence : ℕ} {write : Bool} {step : WalkStep} {whats : List What} {to : JobPlace} (place : Place) → WalksTo s who page n got write sequence step whats to → IsBehind t who o place whats
-walk_behind t o place (took_page g e less) = goes_on true refl (λ next. next)
+walk_behind t o place (took_page g path e less) = goes_on true refl (λ next. next)
 walk_behind t o place (dropped_page g last some most from) = goes_on true refl (λ next. next)
 walk_behind t o place (dropped_first g more from) = goes_on true refl (λ next. next)
 walk_behind t o place (dropped_last g one from) = goes_on true refl (λ next. next)

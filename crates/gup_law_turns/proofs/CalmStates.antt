@@ -4,7 +4,7 @@ use Rattle.gup_base.specs.declared.entry.Allowed.{Allowed}
 use Rattle.gup_base.specs.declared.entry.Entry.{Entry}
 use Rattle.gup_base.specs.declared.entry.Rights.{Rights}
 use Rattle.gup_spec_events.specs.State.{CoreState, ForkStep, Counted, WalkStep, Taken}
-use Rattle.gup_spec_events.specs.Event.{CoreEvent, take_frame, fill, count_one, set_mark, upgrade, break_entry, put_entry, map_pages, lower_entry, protect_pages, drop_entry, discard_entry, add_table, take_out, reclaim, load, store, raise_flag, pin_page, make_handle, unpin_page, give_handle, take_handle, get_reference, put_reference, move_out, move_in, begin_fork, count_page, share_entry, share_mark, share_child, copy_word, place_child, pass_page, end_fork, fail_fork, put_child, fail_unborn, clear_entry, count_moved, place_frame, restore_entry, enter_walk, read_sequence, read_entry, grab_frame, miss_frame, recheck_same, recheck_other, read_mark, read_again, drop_grab, drop_last, drop_first, leave_walk, empty_mirror, fill_mirror, look}
+use Rattle.gup_spec_events.specs.Event.{CoreEvent, take_frame, fill, count_one, set_mark, upgrade, break_entry, put_entry, map_pages, lower_entry, protect_pages, drop_entry, discard_entry, add_table, take_out, reclaim, load, store, raise_flag, pin_page, make_handle, unpin_page, give_handle, take_handle, get_reference, put_reference, move_out, move_in, begin_fork, count_page, share_entry, share_mark, share_child, copy_word, place_child, pass_page, end_fork, fail_fork, put_child, fail_unborn, clear_entry, count_moved, place_frame, restore_entry, enter_walk, read_sequence, read_link, read_entry, grab_frame, miss_frame, recheck_above, recheck_same, recheck_other, read_mark, read_again, drop_grab, drop_last, drop_first, leave_walk, empty_mirror, fill_mirror, look}
 use Rattle.gup_script.specs.Limits.{most_mirrors}
 
 -- no mirror is filled
@@ -74,11 +74,13 @@ pub data IsTurnEvent (a p c : ℕ) (strand : Strand) : CoreEvent → Type 0 wher
   restoring : MayMove strand → (page : ℕ) (e : Entry) (allowed : Allowed) (count : Counted) → IsTurnEvent a p c strand (restore_entry a p page e allowed count)
   entering : (h : ℕ) → strand ≡ of_pin h → (write long : Bool) → IsTurnEvent a p c strand (enter_walk a p write long)
   reading_sequence : (h : ℕ) → strand ≡ of_pin h → (write long : Bool) (sequence : ℕ) → IsTurnEvent a p c strand (read_sequence a p write long sequence)
-  reading_entry : (h : ℕ) → strand ≡ of_pin h → (write long : Bool) (sequence page : ℕ) (was : Option Entry) → IsTurnEvent a p c strand (read_entry a p write long sequence page was)
-  grabbing : (h : ℕ) → strand ≡ of_pin h → (write long : Bool) (sequence page : ℕ) (e : Entry) → IsTurnEvent a p c strand (grab_frame a p write long sequence page e)
-  missing_frame : (h : ℕ) → strand ≡ of_pin h → (write long : Bool) (sequence page : ℕ) (e : Entry) → IsTurnEvent a p c strand (miss_frame a p write long sequence page e)
-  finding_same : (h : ℕ) → strand ≡ of_pin h → (write long : Bool) (sequence page : ℕ) (e : Entry) → IsTurnEvent a p c strand (recheck_same a p write long sequence page e)
-  finding_other : (h : ℕ) → strand ≡ of_pin h → (write long : Bool) (sequence page : ℕ) (e : Entry) → IsTurnEvent a p c strand (recheck_other a p write long sequence page e)
+  reading_link : (h : ℕ) → strand ≡ of_pin h → (write long : Bool) (sequence page : ℕ) (path : List ℕ) (next : Option ℕ) → IsTurnEvent a p c strand (read_link a p write long sequence page path next)
+  reading_entry : (h : ℕ) → strand ≡ of_pin h → (write long : Bool) (sequence page : ℕ) (path : List ℕ) (was : Option Entry) → IsTurnEvent a p c strand (read_entry a p write long sequence page path was)
+  grabbing : (h : ℕ) → strand ≡ of_pin h → (write long : Bool) (sequence page : ℕ) (path : List ℕ) (e : Entry) → IsTurnEvent a p c strand (grab_frame a p write long sequence page path e)
+  missing_frame : (h : ℕ) → strand ≡ of_pin h → (write long : Bool) (sequence page : ℕ) (path : List ℕ) (e : Entry) → IsTurnEvent a p c strand (miss_frame a p write long sequence page path e)
+  rechecking_above : (h : ℕ) → strand ≡ of_pin h → (write long : Bool) (sequence page : ℕ) (path : List ℕ) (e : Entry) (same : Bool) → IsTurnEvent a p c strand (recheck_above a p write long sequence page path e same)
+  finding_same : (h : ℕ) → strand ≡ of_pin h → (write long : Bool) (sequence page : ℕ) (path : List ℕ) (e : Entry) → IsTurnEvent a p c strand (recheck_same a p write long sequence page path e)
+  finding_other : (h : ℕ) → strand ≡ of_pin h → (write long : Bool) (sequence page : ℕ) (path : List ℕ) (e : Entry) → IsTurnEvent a p c strand (recheck_other a p write long sequence page path e)
   reading_mark : (h : ℕ) → strand ≡ of_pin h → (write long : Bool) (sequence page : ℕ) (e : Entry) (mark : Bool) → IsTurnEvent a p c strand (read_mark a p write long sequence page e mark)
   reading_again : (h : ℕ) → strand ≡ of_pin h → (write long : Bool) (sequence : ℕ) (step : WalkStep) (now : ℕ) → IsTurnEvent a p c strand (read_again a p write long sequence step now)
   dropping_grab : (h : ℕ) → strand ≡ of_pin h → (write long : Bool) (sequence f : ℕ) → IsTurnEvent a p c strand (drop_grab a p write long sequence f)

@@ -48,7 +48,7 @@ module _ (s : CoreState) (a p c : ℕ) (strand : Strand) (sound : IsSound s) (h 
   counted_event (putting_back k is f) can = λ g some. fewer f 1 g some
   counted_event (sharing_child done page f writable) can = λ g some. more f (s.count f + 1) g (entry_there s sound h p page (entry_of f writable) can.1) some
   counted_event (putting_child done page e ends) can = λ g some. fewer e.frame 1 g some
-  counted_event (grabbing k is write long sequence page e) can = λ g some. more e.frame (s.count e.frame + 1024) g (h e.frame can.1) some
+  counted_event (grabbing k is write long sequence page path e) can = λ g some. more e.frame (s.count e.frame + 1024) g (h e.frame can.1) some
   counted_event (dropping_grab k is write long sequence f) can = λ g some. fewer f 1024 g some
   counted_event (dropping_last k is write long sequence left last) can = λ g some. fewer last.frame 1024 g some
   counted_event (dropping_first k is write long sequence first left) can = λ g some. fewer first.frame 1024 g some

@@ -93,7 +93,7 @@ module _ (filled : ℕ → Option ℕ) (free : ℕ → Bool) (tables : ℕ → �
   moving_pin a p page want e h = let moving = moving_with a p page h.moving in assumption
 
   read_there : (step : WalkStep) → IsReadThere s step → IsReadThere with_slots step
-  read_there (read g e) h = h
+  read_there (read g path e) h = h
   read_there step h = h
 
   walking_pin : (p page n got : ℕ) (want : Want) (fast : Bool) (q : ℕ) (write long : Bool) (sequence : ℕ) (step : WalkStep) → IsWalkingPin s p page n got want fast q write long sequence step → IsWalkingPin with_slots p page n got want fast q write long sequence step

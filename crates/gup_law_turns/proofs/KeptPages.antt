@@ -16,7 +16,7 @@ pages_event s a p c (raising h is) = absurd (cc is)
 pages_event s a p c (pinning h is page e write long) = absurd (cc is)
 pages_event s a p c (making h is) = absurd (cc is)
 pages_event s a p c (handling h is event) = absurd (cc is)
-pages_event s a p c (finding_same h is write long sequence page e) = absurd (cc is)
+pages_event s a p c (finding_same h is write long sequence page path e) = absurd (cc is)
 pages_event s a p c (dropping_last h is write long sequence left last) = absurd (cc is)
 pages_event s a p c (dropping_first h is write long sequence first left) = absurd (cc is)
 pages_event s a p c event = record { handle = refl; pinned = refl; taken = refl; has_pinned = refl }

@@ -491,8 +491,8 @@ module _ (s : CoreState) (a : ℕ) (strand : Strand) where
   pins_event p c e (raising h is) can = pins_raising h p is
   pins_event p c e (pinning h is page entry write long) can = pins_pinning p page entry write long
   pins_event p c e (making h is) can = pins_making h is can
-  pins_event p c e (finding_same h is write long sequence page entry) can =
-      pins_took p (s.taken a ++ record { proc = p; page = page; frame = entry.frame; object = s.object p page; write = write; long = long } ∷ []) (happens s (recheck_same a p write long sequence page entry)) refl refl refl refl
+  pins_event p c e (finding_same h is write long sequence page path entry) can =
+      pins_took p (s.taken a ++ record { proc = p; page = page; frame = entry.frame; object = s.object p page; write = write; long = long } ∷ []) (happens s (recheck_same a p write long sequence page path entry)) refl refl refl refl
   pins_event p c e (dropping_last h is write long sequence left last) can =
       pins_took p left (happens s (drop_last a p write long sequence left last)) refl refl refl refl
   pins_event p c e (dropping_first h is write long sequence first left) can =

@@ -10,6 +10,7 @@ pub mod MoveOps
 pub mod PinPace
 pub mod PinOps
 pub mod WalkSteps
+pub mod Descents
 pub mod WalkPages
 pub mod WalkEnds
 pub mod WalkOps

@@ -266,7 +266,7 @@ module _ (ops : List Op) (actor : Doer) (s : PlainState) (references : Reference
       (denial_born s references who (pages_got s who.actor) op birth ∙ free is)
 
   walk_right : {first m got sequence : ℕ} {write : Bool} {step : WalkStep} {to : JobPlace} (handle page n : ℕ) (want : Want) (whats : List What) → WalksTo s who first m got write sequence step whats to → ((e : PlainEvent) → whats ≡ Event e ∷ [] → place.had ≡ false → op_denial s references who (pages_got s who.actor) (Pin handle page n want true) ≡ None) → IsPresent ops actor who place (Pin handle page n want true) → AllCanHappen s (events_of whats) → AreRight ops actor s references place whats
-  walk_right {first = first} {got = got} {write = write} handle page n want whats (took_page g e less) free is can =
+  walk_right {first = first} {got = got} {write = write} handle page n want whats (took_page g path e less) free is can =
       let op : Op = Pin handle page n want true in
       let e : PlainEvent = events.PinTry who.actor who.proc (first + got) write in
       one_right op (Event e) is ((can.0, inl (stands_by op (free e refl) place.had refl)), tt)

@@ -1,7 +1,7 @@
 -- How many turns of a pin are over, and that it has more.
 use Rattle.std.proofs.Common.{◌≡◌, ℕ, ◌+◌, ◌<◌, ◌≤◌, Bool, true, false, refl, sym, subst, arith}
 use Rattle.gup_base.specs.declared.entry.Want.{Want}
-use Rattle.gup_spec_events.specs.State.{CoreState, Job, idle, moving, walking, unread, one, more, WalkStep, entered, ready, read, grabbed, rechecked, differed, refused, stopped, dropping, over as walk_over}
+use Rattle.gup_spec_events.specs.State.{CoreState, Job, idle, moving, walking, unread, one, more, WalkStep, entered, ready, reading, read, grabbed, rechecked, differed, refused, stopped, dropping, over as walk_over}
 use Rattle.gup_spec_turns.specs.Cost.{pin_turns, walk_turns, pins_turns}
 use Rattle.gup_spec_turns.specs.PinPlace.{StandsAtPage, IsAtStep, IsWithin, turns_over, steps_over, most_over}
 
@@ -63,8 +63,9 @@ few_over s a p page n got want fast job slow at = absurd at
 walk_left : (page n got far : ℕ) (step : WalkStep) → IsAtStep page n got step → got ≤ n → far ≤ steps_over n got step → far < walk_turns true n
 walk_left page n got far entered at within most = omega (arith, most)
 walk_left page n got far ready at within most = omega (arith, most, within)
-walk_left page n got far (read g e) at within most = omega (arith, most, within)
-walk_left page n got far (grabbed g e) at within most = omega (arith, most, within, at.1)
+walk_left page n got far (reading g path) at within most = absurd at
+walk_left page n got far (read g path e) at within most = omega (arith, most, within)
+walk_left page n got far (grabbed g path e) at within most = omega (arith, most, within, at.1)
 walk_left page n got far (rechecked g e) at within most = omega (arith, most, within)
 walk_left page n got far (differed f) at within most = omega (arith, most, within, at)
 walk_left page n got far refused at within most = omega (arith, most, within)

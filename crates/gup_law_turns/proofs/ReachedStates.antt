@@ -14,12 +14,13 @@ use Rattle.gup_script.specs.declared.op.Op.{Op}
 use Rattle.gup_script.specs.declared.op.Op.TheVariants.{Unmap, Discard, Pin, Unpin, Transfer, Move, Fork, Exit}
 use Rattle.gup_script.specs.Script.{ScriptValue}
 use Rattle.gup_script.specs.Valid.{IsScript, IsOp}
-use Rattle.gup_spec_events.specs.State.{CoreState, Taken, Job, idle, marking, moving, walking, forking, between, counted, copying}
-use Rattle.gup_spec_events.specs.Event.{CoreEvent, happens, run, bias}
+use Rattle.gup_spec_events.specs.State.{CoreState, core_start, Taken, Job, idle, marking, moving, walking, forking, between, counted, copying}
+use Rattle.gup_spec_events.specs.Event.{CoreEvent, Can, happens, run, bias}
 use Rattle.gup_spec_events.specs.Invariant.{AllCan, Holds, entry_of_page, page_of_pin, got_as, got_frame, weight, frame_of, grabbed_frame}
 use Rattle.gup_spec_events.proofs.Runs.{flag_after}
 use Rattle.gup_law_base.specs.Sound.{IsSound}
 use Rattle.gup_law_tables.specs.Standing.{TablesStand, EntriesStand, IsSomewhere}
+use Rattle.gup_law_tables.specs.Inside.{WalksStand}
 use Rattle.gup_law_tables.proofs.TableEvents.{stay}
 use Rattle.gup_law_tables.proofs.Paths.{first_paths, paths_stand}
 use Rattle.gup_law_tables.proofs.Nowhere.{none_made, not_made_run}
@@ -52,13 +53,14 @@ use Rattle.gup_script.specs.Limits.{most_pinned}
 abbrev pub HasAnswered : ScriptValue → ℕ → Place → Type 0
 HasAnswered script a place = place.answered ≤ length (ops_of script a)
 
--- what stands between two turns, which frames are prepared, how much is answered, that entries have their tables, and which tables
--- there are
+-- what stands between two turns, which frames are prepared, how much is answered, that entries have their tables, in which tables
+-- walks stand, and which there are
 pub record IsReached (script : ScriptValue) (r : RunState) : Type 0 where
   pub stands : Stands script r
   pub there : ArePreparedThere r.core
   pub answered : (a : ℕ) → HasAnswered script a (r.places a)
   pub entries : EntriesStand r.core
+  pub inside : WalksStand r.core
   pub needs : r.core.needs_tables ≡ true
   pub few_tables : (table : ℕ) → IsSomewhere r.core table → table < script.frames.tables
 
@@ -298,6 +300,7 @@ is_standing published script valid r h =
       holds = published s k.sound;
       tables = k.tables;
       entries = h.entries;
+      inside = h.inside;
       needs = h.needs;
       few_tables = h.few_tables;
       copies = k.copies;
@@ -350,8 +353,22 @@ entries_run law s [] sound tables have can = have
 entries_run law s (e ∷ es) sound tables have can =
     entries_run law (happens s e) es (law s e sound can.0).sound (stay s e tables can.0) (paths_stand s e sound tables have can.0) can.1
 
-pub reached_on : Law → (script : ScriptValue) → IsScript script → (r : RunState) → IsReached script r → (a : ℕ) → IsReached script (run_after script r a)
-reached_on law script valid r h a =
+-- what is known of the tables that walks stand in: at the start, and after each event
+
+abbrev pub StartsInside : Type 0
+StartsInside = (movable normal tables : ℕ) (needs_tables : Bool) (is_born : ℕ → Bool) → WalksStand (core_start movable normal tables needs_tables is_born)
+
+abbrev pub StaysInside : Type 0
+StaysInside = (s : CoreState) (e : CoreEvent) → IsSound s → TablesStand s → WalksStand s → Can s e → WalksStand (happens s e)
+
+-- so walks stand in kept tables after events as before
+inside_run : Law → StaysInside → (s : CoreState) (es : List CoreEvent) → IsSound s → TablesStand s → WalksStand s → AllCan s es → WalksStand (run s es)
+inside_run law stays s [] sound tables stand can = stand
+inside_run law stays s (e ∷ es) sound tables stand can =
+    inside_run law stays (happens s e) es (law s e sound can.0).sound (stay s e tables can.0) (stays s e sound tables stand can.0) can.1
+
+pub reached_on : Law → StaysInside → (script : ScriptValue) → IsScript script → (r : RunState) → IsReached script r → (a : ℕ) → IsReached script (run_after script r a)
+reached_on law stays script valid r h a =
     let turn = taken script valid r h.stands a in
     let behind = place_behind (r.places a) (core_turn_in script r a).whats in
     let events : List CoreEvent = (core_turn_in script r a).events in
@@ -360,22 +377,25 @@ reached_on law script valid r h a =
       there = there_on r.core a (doer_of script a (op_in script r a)).proc (child_of (doer_of script a (op_in script r a)).proc (op_in script r a)) (strand_of (op_in script r a)) events turn.done.kinds turn.done.can h.there;
       answered = at_each (HasAnswered script) a behind r.places (answered_on script r.core turn.shape refl (h.answered a)) h.answered;
       entries = entries_run law r.core events h.stands.sound h.stands.tables h.entries turn.done.can;
+      inside = inside_run law stays r.core events h.stands.sound h.stands.tables h.inside turn.done.can;
       needs = flag_after r.core events ∙ h.needs;
       few_tables = λ table is. h.few_tables table (not_made_run r.core events table turn.done.can is);
     }
 
-pub reaches : Law → Published → (script : ScriptValue) → IsScript script → (actors : List ℕ) → (r : RunState) → IsReached script r → IsStanding script (turned script r actors)
-reaches law published script valid [] r h = is_standing published script valid r h
-reaches law published script valid (a ∷ actors) r h = reaches law published script valid actors (run_after script r a) (reached_on law script valid r h a)
+pub reaches : Law → StaysInside → Published → (script : ScriptValue) → IsScript script → (actors : List ℕ) → (r : RunState) → IsReached script r → IsStanding script (turned script r actors)
+reaches law stays published script valid [] r h = is_standing published script valid r h
+reaches law stays published script valid (a ∷ actors) r h =
+    reaches law stays published script valid actors (run_after script r a) (reached_on law stays script valid r h a)
 
-pub starts_reached : Starts → (script : ScriptValue) → IsScript script → IsReached script (run_start script)
-starts_reached starts script valid =
+pub starts_reached : Starts → StartsInside → (script : ScriptValue) → IsScript script → IsReached script (run_start script)
+starts_reached starts inside script valid =
     let f = script.frames in
     record {
       stands = stands_first starts script valid;
       there = λ a f is. absurd (cc is);
       answered = λ a. omega arith;
       entries = first_paths f.movable f.normal f.tables true (starts_born script);
+      inside = inside f.movable f.normal f.tables true (starts_born script);
       needs = refl;
       few_tables = λ table is. none_made f.movable f.normal f.tables true (starts_born script) table is;
     }

@@ -490,7 +490,7 @@ module _ (script : ScriptValue) (valid : IsScript script) (r : RunState) (h : St
 
     -- the machine has the frame that a walk has found
     read_kept : (step : WalkStep) → IsReadThere s step → IsReadThere t step
-    read_kept (read g e) there =
+    read_kept (read g path e) there =
         let sized = stays_sized s a p c (strand_of op) turn.events turns.done.kinds in
         omega (arith, there, sized.0, sized.1)
     read_kept step there = there

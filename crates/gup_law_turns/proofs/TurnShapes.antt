@@ -172,13 +172,14 @@ pub data WalksTo (s : PlainState) (who : Doer) (page n got : ℕ) (write : Bool)
   -- the sequence: a fork runs, or the first page is next
   found_fork : WalksTo s who page n got write sequence entered (Silent ∷ []) unbegun
   found_sequence : (now : ℕ) → WalksTo s who page n got write sequence entered (Silent ∷ []) (in_walk now ready)
-  -- a page: its entry is right, its frame is grabbed, its entry is the same, and its frame is marked; or the walk stops
-  found_entry : (g : ℕ) (e : Entry) → got < n → WalksTo s who page n got write sequence ready (Silent ∷ []) (in_walk sequence (read g e))
+  -- a page: its entry is right, its frame is grabbed, the word above and its entry are the same, and its frame is marked; or the
+  -- walk stops
+  found_entry : (g : ℕ) (path : List ℕ) (e : Entry) → got < n → WalksTo s who page n got write sequence ready (Silent ∷ []) (in_walk sequence (read g path e))
   found_wrong : got < n → WalksTo s who page n got write sequence ready (Silent ∷ []) (in_walk sequence stopped)
-  grabbed_frame : (g : ℕ) (e : Entry) → got < n → WalksTo s who page n got write sequence (read g e) (Silent ∷ []) (in_walk sequence (grabbed g e))
-  found_free : (g : ℕ) (e : Entry) → got < n → WalksTo s who page n got write sequence (read g e) (Silent ∷ []) (in_walk sequence stopped)
-  took_page : (g : ℕ) (e : Entry) → got < n → WalksTo s who page n got write sequence (grabbed g e) (Event (events.PinTry who.actor who.proc (page + got) write) ∷ []) (in_walk sequence (rechecked g e))
-  found_other : (g : ℕ) (e : Entry) → got < n → WalksTo s who page n got write sequence (grabbed g e) (Silent ∷ []) (in_walk sequence (differed e.frame))
+  grabbed_frame : (g : ℕ) (path : List ℕ) (e : Entry) → got < n → WalksTo s who page n got write sequence (read g path e) (Silent ∷ []) (in_walk sequence (grabbed g path e))
+  found_free : (g : ℕ) (path : List ℕ) (e : Entry) → got < n → WalksTo s who page n got write sequence (read g path e) (Silent ∷ []) (in_walk sequence stopped)
+  took_page : (g : ℕ) (path : List ℕ) (e : Entry) → got < n → WalksTo s who page n got write sequence (grabbed g path e) (Event (events.PinTry who.actor who.proc (page + got) write) ∷ []) (in_walk sequence (rechecked g e))
+  found_other : (g : ℕ) (path : List ℕ) (e : Entry) → got < n → WalksTo s who page n got write sequence (grabbed g path e) (Silent ∷ []) (in_walk sequence (differed e.frame))
   found_mark : (g : ℕ) (e : Entry) → 0 < got → WalksTo s who page n got write sequence (rechecked g e) (Silent ∷ []) (in_walk sequence ready)
   found_unmarked : (g : ℕ) (e : Entry) → 0 < got → WalksTo s who page n got write sequence (rechecked g e) (Silent ∷ []) (in_walk sequence refused_step)
   dropped_frame : (f : ℕ) → got < n → WalksTo s who page n got write sequence (differed f) (Silent ∷ []) (in_walk sequence stopped)

@@ -9,8 +9,9 @@ use Rattle.gup_script.specs.Limits.{most_pinned}
 use Rattle.gup_script.specs.Valid.{IsOp}
 use Rattle.gup_script.specs.declared.op.Op.{Op}
 use Rattle.gup_script.specs.declared.op.Op.TheVariants.{Pin}
-use Rattle.gup_spec_events.specs.State.{CoreState, Job, idle, moving, walking, Counted, unread, WalkStep, entered, ready, read, grabbed, rechecked, differed, refused, stopped, dropping, over, plain_of}
-use Rattle.gup_spec_events.specs.Event.{is_odd, run}
+use Rattle.gup_spec_tables.specs.Paths.{entry_at, leads_still}
+use Rattle.gup_spec_events.specs.State.{CoreState, Job, idle, moving, walking, Counted, unread, WalkStep, entered, ready, reading, read, grabbed, rechecked, differed, refused, stopped, dropping, over, plain_of}
+use Rattle.gup_spec_events.specs.Event.{is_odd, run, tree_in}
 use Rattle.gup_spec_journal.specs.Place.{Place, Doer}
 use Rattle.gup_spec_turns.specs.CoreTurn.{zones_of}
 use Rattle.gup_spec_turns.specs.JobPlace.{JobPlace, job_place, place_in, KeepsFrame, unbegun}
@@ -91,11 +92,12 @@ walk_turned s who place h handle page n want some few sequence entered job fits 
 walk_turned s who place h handle page n want some few sequence ready job fits = by_more (nat_lt (length (s.taken who.actor)) n) refl
   where
     by_more : (more : Bool) → nat_lt (length (s.taken who.actor)) n ≡ more → IsTurned s who place (Pin handle page n want true) (ready_turn s who.actor who.proc handle (page + length (s.taken who.actor)) n want sequence more)
-    by_more true more = reads_entry s who place h handle page n want some few sequence job fits (grind (arith, nat_tests)) (s.entry who.proc (page + length (s.taken who.actor))) refl
+    by_more true more = reads_entry s who place h handle page n want some few sequence job fits (grind (arith, nat_tests))
     by_more false none = let within = fits.within in reads_all s who place h handle page n want some few sequence job fits (grind (arith, nat_tests, within)) (s.sequence who.proc == sequence) refl
-walk_turned s who place h handle page n want some few sequence (read g e) job fits = grabs s who place h handle page n want some few sequence g e job fits (s.count e.frame) refl
-walk_turned s who place h handle page n want some few sequence (grabbed g e) job fits =
-    rechecks s who place h handle page n want some few sequence g e job fits (is_same e (s.entry who.proc g)) refl
+walk_turned s who place h handle page n want some few sequence (reading g path) job fits = absurd fits.at.here
+walk_turned s who place h handle page n want some few sequence (read g path e) job fits = grabs s who place h handle page n want some few sequence g path e job fits (s.count e.frame) refl
+walk_turned s who place h handle page n want some few sequence (grabbed g path e) job fits =
+    rechecks s who place h handle page n want some few sequence g path e job fits (leads_still (tree_in s who.proc) path g) (is_same e (entry_at (tree_in s who.proc) path g)) refl refl
 walk_turned s who place h handle page n want some few sequence (rechecked g e) job fits =
     marks s who place h handle page n want some few sequence g e job fits (e.writable || s.mark e.frame) refl
 walk_turned s who place h handle page n want some few sequence (differed f) job fits = drops_grab s who place h handle page n want some few sequence f job fits

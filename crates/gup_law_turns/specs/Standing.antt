@@ -16,6 +16,7 @@ use Rattle.gup_spec_events.specs.Event.{bias, has_tables}
 use Rattle.gup_spec_events.specs.Invariant.{Holds, grabbed_frame}
 use Rattle.gup_law_base.specs.Sound.{IsSound}
 use Rattle.gup_law_tables.specs.Standing.{TablesStand, EntriesStand, IsSomewhere}
+use Rattle.gup_law_tables.specs.Inside.{WalksStand}
 use Rattle.gup_spec_journal.specs.Place.{ops_of, present_op, process_of}
 use Rattle.gup_plain.specs.Pages.{mapped_pages}
 use Rattle.gup_spec_turns.specs.Run.{RunState}
@@ -50,8 +51,9 @@ CopyStands s a =
     → has_tables s c page ≡ true
 
 -- The core state is sound, and all that is published of core states holds of it; each page table is free or of one process.
--- Entries need tables: each page with an entry lacks none, and neither does one whose entry is cleared to be moved. A table
--- that is free, or that a process has, is one of those that the script says there are. A page that is copied has its tables.
+-- Entries need tables: each page with an entry lacks none, and neither does one whose entry is cleared to be moved. A walk stands
+-- in page tables that its process has kept. A table that is free, or that a process has, is one of those that the script says
+-- there are. A page that is copied has its tables.
 -- Processes that are not unborn are declared. Each entry is of a mapped page, and its frame has a reference. No actor but one
 -- that forks, moves, walks or pins for long is in the middle of anything, and none at the first turn of its operation; none but
 -- one that pins has taken pages, and none but one that copies a page has prepared a frame. A pin has had no more turns than its
@@ -65,6 +67,7 @@ pub record IsStanding (script : ScriptValue) (r : RunState) : Type 0 where
   pub holds : Holds r.core
   pub tables : TablesStand r.core
   pub entries : EntriesStand r.core
+  pub inside : WalksStand r.core
   pub needs : r.core.needs_tables ≡ true
   pub few_tables : (table : ℕ) → IsSomewhere r.core table → table < script.frames.tables
   pub copies : (a : ℕ) → CopyStands r.core a

@@ -69,4 +69,5 @@ pub fn reached_states_stand()
     gup_law_events::simulates();
     gup_law_events::starts_sound();
     gup_law_events::sound_states_hold();
+    gup_law_tables::walks_stand_in_tables();
 }

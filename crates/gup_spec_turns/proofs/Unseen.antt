@@ -1,7 +1,7 @@
 -- Of mirrors only their slots are kept: what is filled in them changes nothing else, and so does emptying them before a turn.
 use Rattle.std.proofs.Common.{◌≡◌, ℕ, ◌+◌, Bool, true, false, List, [], ◌∷◌, ◌++◌, Option, refl, sym, ap, ◌∙◌, subst, zero, suc, if◌then◌else◌}
 use Rattle.gup_spec_events.specs.State.{CoreState}
-use Rattle.gup_spec_events.specs.Event.{CoreEvent, happens, run, take_frame, fill, count_one, set_mark, upgrade, break_entry, put_entry, raise_flag, pin_page, make_handle, unpin_page, give_handle, take_handle, get_reference, put_reference, clear_entry, count_moved, place_frame, restore_entry, begin_fork, count_page, share_entry, share_mark, share_child, copy_word, place_child, pass_page, end_fork, fail_fork, put_child, fail_unborn, map_pages, lower_entry, protect_pages, drop_entry, discard_entry, add_table, take_out, reclaim, load, store, move_out, move_in, empty_mirror, fill_mirror, look, enter_walk, read_sequence, read_entry, grab_frame, miss_frame, recheck_same, recheck_other, read_mark, read_again, drop_grab, drop_last, drop_first, leave_walk}
+use Rattle.gup_spec_events.specs.Event.{CoreEvent, happens, run, take_frame, fill, count_one, set_mark, upgrade, break_entry, put_entry, raise_flag, pin_page, make_handle, unpin_page, give_handle, take_handle, get_reference, put_reference, clear_entry, count_moved, place_frame, restore_entry, begin_fork, count_page, share_entry, share_mark, share_child, copy_word, place_child, pass_page, end_fork, fail_fork, put_child, fail_unborn, map_pages, lower_entry, protect_pages, drop_entry, discard_entry, add_table, take_out, reclaim, load, store, move_out, move_in, empty_mirror, fill_mirror, look, enter_walk, read_sequence, read_link, read_entry, grab_frame, miss_frame, recheck_above, recheck_same, recheck_other, read_mark, read_again, drop_grab, drop_last, drop_first, leave_walk}
 use Rattle.gup_spec_turns.specs.CoreTurn.{CoreTurn}
 use Rattle.gup_spec_turns.specs.Emptying.{empties, is_stale, emptying}
 use Rattle.gup_script.specs.Limits.{most_mirrors}
@@ -64,11 +64,13 @@ happens_unseen filled s (fill_mirror a m p page f writable) = refl
 happens_unseen filled s (look a m word f value) = refl
 happens_unseen filled s (enter_walk a p write long) = refl
 happens_unseen filled s (read_sequence a p write long sequence) = refl
-happens_unseen filled s (read_entry a p write long sequence page was) = refl
-happens_unseen filled s (grab_frame a p write long sequence page entry) = refl
-happens_unseen filled s (miss_frame a p write long sequence page entry) = refl
-happens_unseen filled s (recheck_same a p write long sequence page entry) = refl
-happens_unseen filled s (recheck_other a p write long sequence page entry) = refl
+happens_unseen filled s (read_link a p write long sequence page path next) = refl
+happens_unseen filled s (read_entry a p write long sequence page path was) = refl
+happens_unseen filled s (grab_frame a p write long sequence page path entry) = refl
+happens_unseen filled s (miss_frame a p write long sequence page path entry) = refl
+happens_unseen filled s (recheck_above a p write long sequence page path entry same) = refl
+happens_unseen filled s (recheck_same a p write long sequence page path entry) = refl
+happens_unseen filled s (recheck_other a p write long sequence page path entry) = refl
 happens_unseen filled s (read_mark a p write long sequence page entry mark) = refl
 happens_unseen filled s (read_again a p write long sequence step now) = refl
 happens_unseen filled s (drop_grab a p write long sequence f) = refl

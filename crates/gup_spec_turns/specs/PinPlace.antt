@@ -6,7 +6,7 @@ use Rattle.gup_plain.specs.Denial.{pin_denial}
 use Rattle.gup_plain.specs.State.{unmade}
 use Rattle.gup_script.specs.declared.op.Op.{Op}
 use Rattle.gup_script.specs.declared.op.Op.TheVariants.{Pin}
-use Rattle.gup_spec_events.specs.State.{CoreState, Taken, Job, idle, moving, unread, walking, WalkStep, entered, ready, read, grabbed, rechecked, differed, refused, stopped, dropping, over}
+use Rattle.gup_spec_events.specs.State.{CoreState, Taken, Job, idle, moving, unread, walking, WalkStep, entered, ready, reading, read, grabbed, rechecked, differed, refused, stopped, dropping, over}
 use Rattle.gup_spec_turns.specs.CoreTurn.{zones_of}
 use Rattle.gup_spec_turns.specs.Cost.{pin_turns, walk_turns}
 use Rattle.gup_spec_turns.specs.JobPlace.{IsCount, IsMoving}
@@ -39,8 +39,9 @@ pub record IsMovingPin (s : CoreState) (a p page : ℕ) (want : Want) (e : Entry
 abbrev pub IsAtStep : (page n got : ℕ) → WalkStep → Type 0
 IsAtStep page n got entered = got ≡ 0
 IsAtStep page n got ready = Unit {0}
-IsAtStep page n got (read g e) = (g ≡ page) × (got < n)
-IsAtStep page n got (grabbed g e) = (g ≡ page) × (got < n)
+IsAtStep page n got (reading g path) = ⊥
+IsAtStep page n got (read g path e) = (g ≡ page) × (got < n)
+IsAtStep page n got (grabbed g path e) = (g ≡ page) × (got < n)
 IsAtStep page n got (rechecked g e) = (0 < got) × (g + 1 ≡ page)
 IsAtStep page n got (differed f) = got < n
 IsAtStep page n got refused = 0 < got
@@ -50,7 +51,7 @@ IsAtStep page n got over = ⊥
 
 -- the frame of an entry that a walk has read is one of the machine
 abbrev pub IsReadThere : CoreState → WalkStep → Type 0
-IsReadThere s (read g e) = e.frame < s.movable + s.normal
+IsReadThere s (read g path e) = e.frame < s.movable + s.normal
 IsReadThere s step = Unit {0}
 
 -- the walk is one of this pin of process p, which has pinned; before it reads the sequence, that is 0
@@ -96,8 +97,9 @@ turns_over job = 0
 abbrev pub steps_over : (n got : ℕ) → WalkStep → ℕ
 steps_over n got entered = 1
 steps_over n got ready = 4 * got + 2
-steps_over n got (read g e) = 4 * got + 3
-steps_over n got (grabbed g e) = 4 * got + 4
+steps_over n got (reading g path) = 4 * got + 2
+steps_over n got (read g path e) = 4 * got + 3
+steps_over n got (grabbed g path e) = 4 * got + 4
 steps_over n got (rechecked g e) = 4 * got + 1
 steps_over n got (differed f) = 4 * got + 5
 steps_over n got refused = 4 * got + 2

@@ -5,8 +5,10 @@ use Rattle.gup_base.specs.declared.entry.Want.{Want}
 use Rattle.gup_plain.specs.declared.answer.Answer.TheVariants as answers
 use Rattle.gup_plain.specs.declared.event.PlainEvent.TheVariants as events
 use Rattle.gup_plain.specs.declared.note.What.TheVariants.{Silent, Event}
-use Rattle.gup_spec_events.specs.State.{CoreState, Taken, WalkStep, entered, ready, read, grabbed, rechecked, differed, refused, stopped, dropping, over}
-use Rattle.gup_spec_events.specs.Event.{CoreEvent, is_odd, raise_flag, make_handle, enter_walk, read_sequence, read_entry, grab_frame, miss_frame, recheck_same, recheck_other, read_mark, read_again, drop_grab, drop_last, drop_first, leave_walk}
+use Rattle.gup_spec_tables.specs.Paths.{entry_at, leads_still}
+use Rattle.gup_spec_events.specs.State.{CoreState, Taken, WalkStep, entered, ready, reading, read, grabbed, rechecked, differed, refused, stopped, dropping, over}
+use Rattle.gup_spec_events.specs.Event.{CoreEvent, is_odd, raise_flag, make_handle, enter_walk, read_sequence, grab_frame, miss_frame, recheck_above, recheck_same, recheck_other, read_mark, read_again, drop_grab, drop_last, drop_first, leave_walk, tree_in}
+use Rattle.gup_spec_events.specs.Descent.{reads_down}
 use Rattle.gup_spec_turns.specs.CoreTurn.{CoreTurn, ends_with}
 
 -- a turn that says nothing of its events
@@ -27,23 +29,35 @@ sequence_turn a p want now =
     silent_turn (read_sequence a p want.write want.long now ∷ leaves_if (is_odd now) a p want now)
 
 -- a frame whose count is 0 isn't grabbed
-abbrev pub grab_turn : (a p : ℕ) → Want → (sequence page : ℕ) → Entry → (count : ℕ) → CoreTurn
-grab_turn a p want sequence page e zero = silent_turn (miss_frame a p want.write want.long sequence page e ∷ [])
-grab_turn a p want sequence page e (suc count) = silent_turn (grab_frame a p want.write want.long sequence page e ∷ [])
+abbrev pub grab_turn : (a p : ℕ) → Want → (sequence page : ℕ) → (path : List ℕ) → Entry → (count : ℕ) → CoreTurn
+grab_turn a p want sequence page path e zero =
+    silent_turn (miss_frame a p want.write want.long sequence page path e ∷ [])
+grab_turn a p want sequence page path e (suc count) =
+    silent_turn (grab_frame a p want.write want.long sequence page path e ∷ [])
 
 -- is this the same entry?
 abbrev pub is_same : Entry → Option Entry → Bool
 is_same e None = false
 is_same e (Some d) = (e.frame == d.frame) && (if e.writable then d.writable else not d.writable)
 
--- where the entry is the same the page is taken, and named from now on
-abbrev pub recheck_turn : (a p : ℕ) → Want → (sequence page : ℕ) → Entry → (same : Bool) → CoreTurn
-recheck_turn a p want sequence page e true =
+-- The word above is read again, and where it leads on as it did the entry: where that is the same the page is taken, and named
+-- from now on.
+abbrev pub recheck_turn : (a p : ℕ) → Want → (sequence page : ℕ) → (path : List ℕ) → Entry → (leads same : Bool) → CoreTurn
+recheck_turn a p want sequence page path e true true =
     record {
-      events = recheck_same a p want.write want.long sequence page e ∷ [];
+      events =
+          recheck_above a p want.write want.long sequence page path e true
+          ∷ recheck_same a p want.write want.long sequence page path e
+          ∷ [];
       whats = Event (events.PinTry a p page want.write) ∷ [];
     }
-recheck_turn a p want sequence page e false = silent_turn (recheck_other a p want.write want.long sequence page e ∷ [])
+recheck_turn a p want sequence page path e true false =
+    silent_turn
+    (recheck_above a p want.write want.long sequence page path e true
+    ∷ recheck_other a p want.write want.long sequence page path e
+    ∷ [])
+recheck_turn a p want sequence page path e false same =
+    silent_turn (recheck_above a p want.write want.long sequence page path e false ∷ [])
 
 -- nothing is left to drop
 abbrev pub is_none_left : List Taken → Bool
@@ -67,10 +81,10 @@ again_turn a p want sequence now taken =
     silent_turn
     (reads_again a p want sequence stopped now ∷ leaves_if ((now == sequence) || is_none_left taken) a p want sequence)
 
--- while pages are left it reads the next one's entry
+-- while pages are left it reads down the next one's path, to its entry
 abbrev pub ready_turn : CoreState → (a p handle page n : ℕ) → Want → (sequence : ℕ) → (more : Bool) → CoreTurn
 ready_turn s a p handle page n want sequence true =
-    silent_turn (read_entry a p want.write want.long sequence page (s.entry p page) ∷ [])
+    silent_turn (reads_down s a p want.write want.long sequence page)
 ready_turn s a p handle page n want sequence false =
     all_turn a p handle n want sequence (s.sequence p) (s.sequence p == sequence)
 
@@ -103,13 +117,15 @@ first_turn a p want sequence (t ∷ rest) =
       whats = Event (events.PinDrop a t.page) ∷ [];
     }
 
--- The turn of a walk at this step. No turn ends where it is over.
+-- The turn of a walk at this step. No turn ends inside of page tables, or where the walk is over.
 abbrev pub walk_turn : CoreState → (a p handle page n : ℕ) → Want → (sequence : ℕ) → WalkStep → CoreTurn
 walk_turn s a p handle page n want sequence entered = sequence_turn a p want (s.sequence p)
 walk_turn s a p handle page n want sequence ready =
     ready_turn s a p handle (page + length (s.taken a)) n want sequence (nat_lt (length (s.taken a)) n)
-walk_turn s a p handle page n want sequence (read g e) = grab_turn a p want sequence g e (s.count e.frame)
-walk_turn s a p handle page n want sequence (grabbed g e) = recheck_turn a p want sequence g e (is_same e (s.entry p g))
+walk_turn s a p handle page n want sequence (reading g path) = silent_turn []
+walk_turn s a p handle page n want sequence (read g path e) = grab_turn a p want sequence g path e (s.count e.frame)
+walk_turn s a p handle page n want sequence (grabbed g path e) =
+    recheck_turn a p want sequence g path e (leads_still (tree_in s p) path g) (is_same e (entry_at (tree_in s p) path g))
 walk_turn s a p handle page n want sequence (rechecked g e) =
     silent_turn (read_mark a p want.write want.long sequence g e (s.mark e.frame) ∷ [])
 walk_turn s a p handle page n want sequence (differed f) =

@@ -10,5 +10,5 @@ returns-clause-turn c script r a op valid stands is free = bounded_turn script v
 
 pub returns-clause-within : goal.returns-clause-within
 returns-clause-within c script actors a op valid is =
-    let reached = starts_reached c.starts_sound.ensures script valid in
-    within_turned c.simulates.ensures c.sound_states_hold.ensures script valid actors (run_start script) reached (within_first script reached) a op is
+    let reached = starts_reached c.starts_sound.ensures c.walks_stand_in_tables.ensures.start script valid in
+    within_turned c.simulates.ensures c.walks_stand_in_tables.ensures.event c.sound_states_hold.ensures script valid actors (run_start script) reached (within_first script reached) a op is

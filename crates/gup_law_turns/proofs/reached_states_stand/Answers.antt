@@ -5,4 +5,5 @@ use Rattle.gup_law_turns.proofs.reached_states_stand.Goals as goal
 
 pub returns : goal.returns
 returns c script actors valid =
-    reaches c.simulates.ensures c.sound_states_hold.ensures script valid actors (run_start script) (starts_reached c.starts_sound.ensures script valid)
+    reaches c.simulates.ensures c.walks_stand_in_tables.ensures.event c.sound_states_hold.ensures script valid actors (run_start script)
+    (starts_reached c.starts_sound.ensures c.walks_stand_in_tables.ensures.start script valid)
