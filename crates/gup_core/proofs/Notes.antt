@@ -16,8 +16,9 @@ use Rattle.gup_plain.specs.declared.note.What.{What}
 use Rattle.gup_plain.specs.declared.note.What.TheVariants.{Event}
 use Rattle.gup_script.specs.declared.op.Op.{Op}
 use Rattle.gup_script.specs.declared.op.Op.TheVariants.{Map, Unmap, Protect, Discard, Load, Store, Pin, Unpin, Give, Get, Put, Transfer, Fork, Exit, Move, Mirror, Look}
-use Rattle.gup_spec_events.specs.State.{CoreState, Job, forking, ForkStep, between, copying, idle, moving, Counted, unread, one, more, walking, Taken, WalkStep, entered, ready, read, grabbed, rechecked, differed, refused, stopped, dropping, over, counted}
-use Rattle.gup_spec_events.specs.Event.{CoreEvent, entry_of, take_frame, put_entry, place_frame, restore_entry, run, has_tables}
+use Rattle.gup_spec_events.specs.State.{CoreState, Job, forking, ForkStep, between, copying, idle, moving, Counted, unread, one, more, walking, Taken, WalkStep, entered, ready, reading, read, grabbed, rechecked, differed, refused, stopped, dropping, over, counted}
+use Rattle.gup_spec_events.specs.Event.{CoreEvent, entry_of, take_frame, put_entry, place_frame, restore_entry, run, has_tables, tree_in}
+use Rattle.gup_spec_tables.specs.Paths.{leads_still, entry_at}
 use Rattle.gup_spec_events.specs.Fault.{Fault}
 use Rattle.gup_spec_journal.specs.Denial.{has_reference}
 use Rattle.gup_spec_turns.specs.Turn.{op_turn, failed_turn, turn_at}
@@ -108,13 +109,14 @@ ready_two : (s : CoreState) (a p handle page n : ℕ) (want : Want) (sequence : 
 ready_two s a p handle page n want sequence true = tt
 ready_two s a p handle page n want sequence false = all_two a p handle n want sequence (s.sequence p) (s.sequence p == sequence)
 
-grab_two : (a p : ℕ) (want : Want) (sequence page : ℕ) (e : Entry) (count : ℕ) → NoTwo (grab_turn a p want sequence page e count).whats
-grab_two a p want sequence page e zero = tt
-grab_two a p want sequence page e (suc count) = tt
+grab_two : (a p : ℕ) (want : Want) (sequence page : ℕ) (path : List ℕ) (e : Entry) (count : ℕ) → NoTwo (grab_turn a p want sequence page path e count).whats
+grab_two a p want sequence page path e zero = tt
+grab_two a p want sequence page path e (suc count) = tt
 
-recheck_two : (a p : ℕ) (want : Want) (sequence page : ℕ) (e : Entry) (same : Bool) → NoTwo (recheck_turn a p want sequence page e same).whats
-recheck_two a p want sequence page e true = tt
-recheck_two a p want sequence page e false = tt
+recheck_two : (a p : ℕ) (want : Want) (sequence page : ℕ) (path : List ℕ) (e : Entry) (leads same : Bool) → NoTwo (recheck_turn a p want sequence page path e leads same).whats
+recheck_two a p want sequence page path e true true = tt
+recheck_two a p want sequence page path e true false = tt
+recheck_two a p want sequence page path e false same = tt
 
 drop_two : (a p : ℕ) (want : Want) (sequence : ℕ) (taken : Option (List Taken × Taken)) → NoTwo (last_turn a p want sequence taken).whats
 drop_two a p want sequence None = tt
@@ -127,8 +129,10 @@ drops_two a p want sequence (t ∷ rest) = tt
 walk_two : (s : CoreState) (a p handle page n : ℕ) (want : Want) (sequence : ℕ) (step : WalkStep) → NoTwo (walk_turn s a p handle page n want sequence step).whats
 walk_two s a p handle page n want sequence entered = tt
 walk_two s a p handle page n want sequence ready = ready_two s a p handle (page + length (s.taken a)) n want sequence (nat_lt (length (s.taken a)) n)
-walk_two s a p handle page n want sequence (read g e) = grab_two a p want sequence g e (s.count e.frame)
-walk_two s a p handle page n want sequence (grabbed g e) = recheck_two a p want sequence g e (is_same e (s.entry p g))
+walk_two s a p handle page n want sequence (reading g path) = tt
+walk_two s a p handle page n want sequence (read g path e) = grab_two a p want sequence g path e (s.count e.frame)
+walk_two s a p handle page n want sequence (grabbed g path e) =
+    recheck_two a p want sequence g path e (leads_still (tree_in s p) path g) (is_same e (entry_at (tree_in s p) path g))
 walk_two s a p handle page n want sequence (rechecked g e) = tt
 walk_two s a p handle page n want sequence (differed f) = tt
 walk_two s a p handle page n want sequence refused = drop_two a p want sequence (split_last (s.taken a))

@@ -15,16 +15,16 @@ use Rattle.gup_script.specs.Limits.{most_handles}
 use Rattle.gup_script.specs.Valid.{IsScript}
 use Rattle.gup_spec_journal.specs.Place.{doer_of, ops_of, process_of, present_op}
 use Rattle.gup_frames.specs.Frames.{FramesValue, IsFrame, frames_of}
-use Rattle.gup_space.specs.Space.{SpaceValue, space_of, lacking}
+use Rattle.gup_space.specs.Space.{SpaceValue, space_of, lacking, tables_in}
 use Rattle.gup_space.specs.Shows.{ShowsFrames, ShowsSpace}
 use Rattle.gup_handles.specs.Handles.{HandleValue, handles_of}
 use Rattle.gup_handles.specs.Handles as kept
 use Rattle.gup_handles.specs.Shows.{IsShown}
-use Rattle.gup_spec_events.specs.Event.{bias, taken_frames as frames_taken, has_tables}
+use Rattle.gup_spec_events.specs.Event.{bias, taken_frames as frames_taken, has_tables, tree_in}
 use Rattle.gup_spec_events.specs.Invariant.{frame_of, grabbed_frame}
 use Rattle.gup_notify.specs.Mirrors.{Filled, MirrorsValue, mirrors_of}
 use Rattle.gup_notify.specs.Shows.{IsMirror, ShowsMirrors}
-use Rattle.gup_spec_events.specs.State.{CoreState, Taken, Job, idle, moving, walking, Counted, forking, between, counted, copying, WalkStep, read, rechecked, differed, refused, dropping}
+use Rattle.gup_spec_events.specs.State.{CoreState, Taken, Job, idle, moving, walking, Counted, forking, between, counted, copying, WalkStep, read, grabbed, rechecked, differed, refused, dropping}
 use Rattle.gup_law_base.specs.Sound.{IsSound, Moving, moving_of, Walking, walking_of, keeps_table, keeps_structure}
 use Rattle.gup_law_base.proofs.Lonely.{whole_counts}
 use Rattle.gup_spec_turns.specs.Run.{RunState, run_start, run_after, turned}
@@ -32,7 +32,10 @@ use Rattle.gup_spec_turns.specs.ForkTurns.{first_behind}
 use Rattle.gup_spec_turns.specs.JobPlace.{JobPlace, job_place, place_in, KeepsNoJob, StandsFork, StandsMove, IsForking, HasCounted, IsPrepared}
 use Rattle.gup_spec_turns.specs.Cost.{pins_turns}
 use Rattle.gup_law_turns.proofs.PinPace.{pin_left}
+use Rattle.gup_spec_tables.specs.Paths.{KeepsPath}
 use Rattle.gup_law_tables.specs.Standing.{HavePaths, lacking as lacking_in}
+use Rattle.gup_law_tables.specs.Inside.{WalksStand}
+use Rattle.gup_law_tables.proofs.InsideTables.{keeps_same}
 use Rattle.gup_law_turns.specs.Standing.{IsStanding, CopyStands, StandsHandle, given_back, back_in}
 use Rattle.gup_op_base.proofs.Searching.{tables_agree}
 use Rattle.gup_op_base.specs.Far.{HasFar}
@@ -179,10 +182,10 @@ ready_to_move s F S a p page zone sound paths there frames space stands = go (s.
     go job prepared is h = absurd h
 
 -- and so is the page that a long pin has cleared, whose entry is right for the pin
-pub ready_to_pin : (s : CoreState) (F : FramesValue) (S : SpaceValue) (a p handle page n : ℕ) (want : Want) (fast : Bool) → IsSound s → HavePaths s.place s.entry s.job → ((f : ℕ) → (F.count f ≡ 0 → ⊥) → IsFrame F f) → ShowsFrames F s → ShowsSpace p S s
+pub ready_to_pin : (s : CoreState) (F : FramesValue) (S : SpaceValue) (a p handle page n : ℕ) (want : Want) (fast : Bool) → IsSound s → HavePaths s.place s.entry s.job → WalksStand s → ((f : ℕ) → (F.count f ≡ 0 → ⊥) → IsFrame F f) → ShowsFrames F s → ShowsSpace p S s
     → ((k : ℕ) (t : Taken) → slice_get (s.taken a) k ≡ Some t → bias ≤ s.count t.frame) → ((f : ℕ) → grabbed_frame (s.job a) ≡ Some f → bias ≤ s.count f)
     → StandsPin s a p handle page n want fast (length (s.taken a)) → IsReadyPin F (frames_taken (s.taken a)) (page + length (s.taken a)) n want a (place_in s a) S
-ready_to_pin s F S a p handle page n want fast sound paths there frames space weighed grabbed stands = go (s.job a) (s.prepared a) refl stands.at
+ready_to_pin s F S a p handle page n want fast sound paths inside there frames space weighed grab_weighs stands = go (s.job a) (s.prepared a) refl stands.at
   where
     got : ℕ
     got = length (s.taken a)
@@ -208,14 +211,16 @@ ready_to_pin s F S a p handle page n want fast sound paths there frames space we
     last_is (t ∷ []) f some all = ap (λ (k : ℕ). Some k) (all 0 t refl refl)
     last_is (t ∷ u ∷ taken) f some all = last_is (u ∷ taken) f (omega arith) (λ k x is end. all (suc k) x is (omega (arith, end)))
 
-    walks_ready : (q : ℕ) (write long : Bool) (sequence : ℕ) (step : WalkStep) → s.job a ≡ walking q write long sequence step → IsWalkingPin s p (page + got) n got want fast q write long sequence step → IsReadyToWalk F (frames_taken (s.taken a)) step
-    walks_ready q write long sequence (read g e) is h = let within = h.there in omega (arith, within, frames.movable, frames.normal)
+    walks_ready : (q : ℕ) (write long : Bool) (sequence : ℕ) (step : WalkStep) → s.job a ≡ walking q write long sequence step → IsWalkingPin s p (page + got) n got want fast q write long sequence step → IsReadyToWalk F S (frames_taken (s.taken a)) step
+    walks_ready q write long sequence (read g path e) is h = let within = h.there in omega (arith, within, frames.movable, frames.normal)
+    walks_ready q write long sequence (grabbed g path e) is h =
+        keeps_same (tree_in s p) (tables_in S) path g space.place (subst (λ (k : ℕ). KeepsPath (tree_in s k) path g) h.of (inside a q sequence write long (grabbed g path e) is).kept)
     walks_ready q write long sequence (rechecked g e) is h =
         let walk : Walking = record { proc = q; write = write; long = long; sequence = sequence; step = rechecked g e } in
         let walks : sound.0.walks a ≡ Some walk = sound.1.walks_are a ∙ ap walking_of is in
         let last : last_of (frames_taken (s.taken a)) ≡ Some e.frame = last_is (s.taken a) e.frame h.here.0 (λ k t at end. sound.1.walk_last a k walk t e walks refl at end) in
         ((subst (λ (o : Option ℕ). IfSome o (IsPinnedFrame F)) last (last_pinned (s.taken a) weighed)).0, last)
-    walks_ready q write long sequence (differed f) is h = pinned_frame f (grabbed f (ap grabbed_frame is))
+    walks_ready q write long sequence (differed f) is h = pinned_frame f (grab_weighs f (ap grabbed_frame is))
     walks_ready q write long sequence refused is h = last_pinned (s.taken a) weighed
     walks_ready q write long sequence dropping is h = first_pinned (s.taken a) weighed
     walks_ready q write long sequence step is h = tt
@@ -447,5 +452,5 @@ at_rest m valid is there stand =
           subst (λ (k : JobPlace). IsReadyPin (frames_of m.parts.frames) pages.items (page + length pages.items) n want a k (space_of space)) (sym (shown.jobs a seat sits))
           (subst (λ (k : ℕ). IsReadyPin (frames_of m.parts.frames) pages.items (page + k) n want a (place_in r.core a) (space_of space)) many
           (subst (λ (fs : List ℕ). IsReadyPin (frames_of m.parts.frames) fs (page + length (r.core.taken a)) n want a (place_in r.core a) (space_of space)) frames_are
-          (ready_to_pin r.core (frames_of m.parts.frames) (space_of space) a (process_of m.script a) handle page n want fast h.sound paths there parts.frames (parts.spaces (process_of m.script a) space space_is) (h.taken_weighed a) (h.grabbed a) at)));
+          (ready_to_pin r.core (frames_of m.parts.frames) (space_of space) a (process_of m.script a) handle page n want fast h.sound paths h.inside there parts.frames (parts.spaces (process_of m.script a) space space_is) (h.taken_weighed a) (h.grabbed a) at)));
     }

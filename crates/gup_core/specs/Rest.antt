@@ -40,7 +40,7 @@ HoldsNoLock space a = (space.structure ≡ Some a → ⊥) × (space.table ≡ S
 abbrev pub IsReadyPin : FramesValue → (taken : List ℕ) → (page n : ℕ) → Want → (a : ℕ) → Place → SpaceValue → Type 0
 IsReadyPin frames taken page n want a unbegun space = HoldsNoLock space a
 IsReadyPin frames taken page n want a (moving_page g e count) space = (g ≡ page) × IsCleared frames page want e space
-IsReadyPin frames taken page n want a (in_walk sequence step) space = IsAtStep page n (length taken) step × IsReadyToWalk frames taken step
+IsReadyPin frames taken page n want a (in_walk sequence step) space = IsAtStep page n (length taken) step × IsReadyToWalk frames space taken step
 IsReadyPin frames taken page n want a place space = ⊥
 
 -- Its script is one, and it has its parts and a seat for each actor. Each process is tidy; counts and sequences are small, and

@@ -5,7 +5,7 @@ use Rattle.std.proofs.lemmas.Bool.Decides.{nat_tests}
 use Rattle.gup_frames.specs.Frames.{FramesValue, without_references}
 use Rattle.gup_space.specs.Shows.{ShowsFrames, ShowsSpace}
 use Rattle.gup_space.specs.Space.{SpaceValue}
-use Rattle.gup_spec_events.specs.State.{CoreState, Taken, idle, entered, ready, read, grabbed, rechecked, differed, refused, stopped, dropping, over}
+use Rattle.gup_spec_events.specs.State.{CoreState, Taken, idle, entered, ready, reading, read, grabbed, rechecked, differed, refused, stopped, dropping, over}
 use Rattle.gup_spec_events.specs.Event.{happens, run, taken_frames, drop_first}
 use Rattle.gup_spec_events.specs.Event.{without_references as core_without}
 use Rattle.gup_fast.specs.Walks.{WalkValue, Stage, ShowsWalk, AreWalkEvents, IsWalk, FitsStage, unbegun, at, left, last_of, first_of, but_first, stage_left, dropped_at, dropped_frames, after_drop, split_last, drops, drops_first, drops_last, job_at, walks_after, counted_in}
@@ -102,8 +102,9 @@ leads F S w s a p unbegun taken fits is job frames space = (frames, as_it_is p S
 leads F S w s a p left taken fits is job frames space = (frames, as_it_is p S s space, record { job = job; taken = is })
 leads F S w s a p (at entered) taken fits is job frames space = (frames, as_it_is p S s space, record { job = job; taken = is })
 leads F S w s a p (at ready) taken fits is job frames space = (frames, as_it_is p S s space, record { job = job; taken = is })
-leads F S w s a p (at (read page e)) taken fits is job frames space = (frames, as_it_is p S s space, record { job = job; taken = is })
-leads F S w s a p (at (grabbed page e)) taken fits is job frames space = (frames, as_it_is p S s space, record { job = job; taken = is })
+leads F S w s a p (at (reading page path)) taken fits is job frames space = absurd fits
+leads F S w s a p (at (read page path e)) taken fits is job frames space = (frames, as_it_is p S s space, record { job = job; taken = is })
+leads F S w s a p (at (grabbed page path e)) taken fits is job frames space = (frames, as_it_is p S s space, record { job = job; taken = is })
 leads F S w s a p (at (rechecked page e)) taken fits is job frames space = (frames, as_it_is p S s space, record { job = job; taken = is })
 leads F S w s a p (at stopped) taken fits is job frames space = (frames, as_it_is p S s space, record { job = job; taken = is })
 leads F S w s a p (at over) taken fits is job frames space = (frames, as_it_is p S s space, record { job = job; taken = is })

@@ -9,19 +9,24 @@ use Rattle.gup_plain.specs.State.{Birth, Handle, Noted}
 use Rattle.gup_space.specs.Shows.{ShowsSpace}
 use Rattle.gup_space.specs.Space.{SpaceValue}
 use Rattle.gup_spec_events.specs.State.{CoreState, Taken, WalkStep, differed, refused, dropping}
-use Rattle.gup_spec_events.specs.Event.{CoreEvent, is_odd, taken_frames, happens, run, raise_flag, enter_walk, read_sequence, read_entry, grab_frame, miss_frame, recheck_same, recheck_other, read_mark, read_again, drop_grab, drop_last, drop_first, leave_walk}
-use Rattle.gup_fast.specs.Walks.{WalkValue, Stage, at, is_same, is_none_left, leaves_if, flags, reads_sequence, grabs, rechecks, reads_again, split_last, drops_last, drops_first, drops}
+use Rattle.gup_spec_events.specs.Event.{CoreEvent, is_odd, taken_frames, happens, run, raise_flag, enter_walk, read_sequence, read_link, read_entry, grab_frame, miss_frame, recheck_above, recheck_same, recheck_other, read_mark, read_again, drop_grab, drop_last, drop_first, leave_walk, tree_in}
+use Rattle.gup_spec_tables.specs.Tables.{TreeValue}
+use Rattle.gup_spec_tables.specs.Paths.{link_at}
+use Rattle.gup_spec_events.specs.Descent.{led_on, reads_on, reads_down}
+use Rattle.gup_fast.specs.Walks.{WalkValue, Stage, at, is_none_left, leaves_if, flags, reads_sequence, grabs, rechecks, reads_again, split_last, drops_last, drops_first, drops}
 
 -- an event of a walk of process p by actor a
 pub data IsWalking (a p : ℕ) : CoreEvent → Type 0 where
   flagging : IsWalking a p (raise_flag a p)
   entering : (write long : Bool) → IsWalking a p (enter_walk a p write long)
   reading_sequence : (write long : Bool) (sequence : ℕ) → IsWalking a p (read_sequence a p write long sequence)
-  reading_entry : (write long : Bool) (sequence page : ℕ) (was : Option Entry) → IsWalking a p (read_entry a p write long sequence page was)
-  grabbing_it : (write long : Bool) (sequence page : ℕ) (e : Entry) → IsWalking a p (grab_frame a p write long sequence page e)
-  missing : (write long : Bool) (sequence page : ℕ) (e : Entry) → IsWalking a p (miss_frame a p write long sequence page e)
-  finding_same : (write long : Bool) (sequence page : ℕ) (e : Entry) → IsWalking a p (recheck_same a p write long sequence page e)
-  finding_other : (write long : Bool) (sequence page : ℕ) (e : Entry) → IsWalking a p (recheck_other a p write long sequence page e)
+  reading_link : (write long : Bool) (sequence page : ℕ) (path : List ℕ) (next : Option ℕ) → IsWalking a p (read_link a p write long sequence page path next)
+  reading_entry : (write long : Bool) (sequence page : ℕ) (path : List ℕ) (was : Option Entry) → IsWalking a p (read_entry a p write long sequence page path was)
+  grabbing_it : (write long : Bool) (sequence page : ℕ) (path : List ℕ) (e : Entry) → IsWalking a p (grab_frame a p write long sequence page path e)
+  missing : (write long : Bool) (sequence page : ℕ) (path : List ℕ) (e : Entry) → IsWalking a p (miss_frame a p write long sequence page path e)
+  rechecking_above : (write long : Bool) (sequence page : ℕ) (path : List ℕ) (e : Entry) (same : Bool) → IsWalking a p (recheck_above a p write long sequence page path e same)
+  finding_same : (write long : Bool) (sequence page : ℕ) (path : List ℕ) (e : Entry) → IsWalking a p (recheck_same a p write long sequence page path e)
+  finding_other : (write long : Bool) (sequence page : ℕ) (path : List ℕ) (e : Entry) → IsWalking a p (recheck_other a p write long sequence page path e)
   reading_mark : (write long : Bool) (sequence page : ℕ) (e : Entry) (mark : Bool) → IsWalking a p (read_mark a p write long sequence page e mark)
   reading_again : (write long : Bool) (sequence : ℕ) (step : WalkStep) (now : ℕ) → IsWalking a p (read_again a p write long sequence step now)
   dropping_grab : (write long : Bool) (sequence f : ℕ) → IsWalking a p (drop_grab a p write long sequence f)
@@ -46,20 +51,28 @@ flags_walking a p w = (flagging, (entering _ _, tt))
 pub sequence_walking : (a p sequence : ℕ) (w : WalkValue) → AreWalking a p (reads_sequence a p sequence w)
 sequence_walking a p sequence w = (reading_sequence _ _ sequence, leaves_walking (is_odd sequence) a p w.want sequence)
 
-pub read_walking : (a p : ℕ) (write long : Bool) (sequence page : ℕ) (was : Option Entry) → AreWalking a p (read_entry a p write long sequence page was ∷ [])
-read_walking a p write long sequence page was = (reading_entry write long sequence page was, tt)
+reads_walking : (v : TreeValue) (a p : ℕ) (write long : Bool) (sequence page n : ℕ) (path : List ℕ) → AreWalking a p (reads_on v a p write long sequence page n path)
+reads_walking v a p write long sequence page zero path = (reading_entry write long sequence page path _, tt)
+reads_walking v a p write long sequence page (suc n) path = (
+  reading_link write long sequence page path (link_at v path page),
+  go (link_at v path page) (λ table. reads_walking v a p write long sequence page n (table ∷ path)),
+)
+  where
+    go : (o : Option ℕ) → ((table : ℕ) → AreWalking a p (reads_on v a p write long sequence page n (table ∷ path))) → AreWalking a p (led_on (λ table. reads_on v a p write long sequence page n (table ∷ path)) o)
+    go None goes = tt
+    go (Some table) goes = goes table
 
-pub grabs_walking : (a p page count : ℕ) (e : Entry) (w : WalkValue) → AreWalking a p (grabs a p page count e w)
-grabs_walking a p page zero e w = (missing _ _ _ page e, tt)
-grabs_walking a p page (suc n) e w = (grabbing_it _ _ _ page e, tt)
+pub read_walking : (s : CoreState) (a p : ℕ) (write long : Bool) (sequence page : ℕ) → AreWalking a p (reads_down s a p write long sequence page)
+read_walking s a p write long sequence page = reads_walking (tree_in s p) a p write long sequence page 3 []
 
-recheck_walking : (same : Bool) (a p page : ℕ) (e : Entry) (w : WalkValue)
-    → AreWalking a p (if same then recheck_same a p w.want.write w.want.long w.sequence page e ∷ [] else recheck_other a p w.want.write w.want.long w.sequence page e ∷ [])
-recheck_walking true a p page e w = (finding_same _ _ _ page e, tt)
-recheck_walking false a p page e w = (finding_other _ _ _ page e, tt)
+pub grabs_walking : (a p page count : ℕ) (path : List ℕ) (e : Entry) (w : WalkValue) → AreWalking a p (grabs a p page count path e w)
+grabs_walking a p page zero path e w = (missing _ _ _ page path e, tt)
+grabs_walking a p page (suc n) path e w = (grabbing_it _ _ _ page path e, tt)
 
-pub rechecks_walking : (a p page : ℕ) (e : Entry) (now : Option Entry) (w : WalkValue) → AreWalking a p (rechecks a p page e now w)
-rechecks_walking a p page e now w = recheck_walking (is_same e now) a p page e w
+pub rechecks_walking : (a p page : ℕ) (path : List ℕ) (e : Entry) (leads same : Bool) (w : WalkValue) → AreWalking a p (rechecks a p page path e leads same w)
+rechecks_walking a p page path e true true w = (rechecking_above _ _ _ page path e true, (finding_same _ _ _ page path e, tt))
+rechecks_walking a p page path e true false w = (rechecking_above _ _ _ page path e true, (finding_other _ _ _ page path e, tt))
+rechecks_walking a p page path e false same w = (rechecking_above _ _ _ page path e false, tt)
 
 pub mark_walking : (a p : ℕ) (write long : Bool) (sequence page : ℕ) (e : Entry) (mark : Bool) → AreWalking a p (read_mark a p write long sequence page e mark ∷ [])
 mark_walking a p write long sequence page e mark = (reading_mark write long sequence page e mark, tt)
@@ -121,7 +134,7 @@ pub walkings_jobs : (a p b : ℕ) (s : CoreState) (es : List CoreEvent) → (b �
 walkings_jobs a p b s es other all = through a p (λ x. x.job b) (λ x e is. walking_job a p b x other is) s es all
 
 walking_taken : (a p b : ℕ) (s : CoreState) {e : CoreEvent} → (b ≡ a → ⊥) → IsWalking a p e → (happens s e).taken b ≡ s.taken b
-walking_taken a p b s other (finding_same write long sequence page e) = put_other a b _ s.taken other
+walking_taken a p b s other (finding_same write long sequence page path e) = put_other a b _ s.taken other
 walking_taken a p b s other (dropping_last write long sequence others last) = put_other a b others s.taken other
 walking_taken a p b s other (dropping_first write long sequence first others) = put_other a b others s.taken other
 walking_taken a p b s other event = refl

@@ -1,13 +1,14 @@
 -- A page of a walk: its frame is grabbed, and its entry read again.
-use Rattle.std.specs.Prelude.{◌≡◌, ℕ, ◌+◌, zero, suc, Bool, true, false, if◌then◌else◌, List, [], ◌∷◌, ◌++◌, length, Option, Some}
+use Rattle.std.specs.Prelude.{◌≡◌, ℕ, ◌+◌, zero, suc, Bool, true, false, if◌then◌else◌, ◌&&◌, List, [], ◌∷◌, ◌++◌, length, Option, Some}
 use Rattle.std.proofs.Common.{refl, sym, ap, subst, ◌∙◌, arith}
 use Rattle.std.proofs.lemmas.List.{length-append, map-append}
 use Rattle.std.proofs.lemmas.Bool.Decides.{nat_tests}
 use Rattle.gup_base.specs.declared.entry.Entry.{Entry}
 use Rattle.gup_frames.specs.Frames.{FramesValue}
-use Rattle.gup_space.specs.Space.{SpaceValue}
+use Rattle.gup_space.specs.Space.{SpaceValue, tables_in}
+use Rattle.gup_spec_tables.specs.Paths.{entry_at, leads_still}
 use Rattle.gup_spec_events.specs.State.{Taken, WalkStep, read, grabbed, rechecked, differed}
-use Rattle.gup_spec_events.specs.Event.{taken_frames, recheck_same, recheck_other}
+use Rattle.gup_spec_events.specs.Event.{taken_frames, happens, recheck_above}
 use Rattle.gup_fast.specs.Walks.{WalkValue, Stage, AreWalkEvents, at, walks_after, at_stage, grabbed_frames, step_after_grab, grabs, is_same, after_recheck, rechecks, last_of, IsWalk, FitsStage, IsAhead}
 use Rattle.gup_fast.proofs.Begins.{change, own}
 
@@ -16,21 +17,21 @@ stays : (stage : Stage) (step next : WalkStep) (walks : ℕ) → stage ≡ at st
 stays stage step next walks is = rw is refl
 
 -- a frame that has a reference is grabbed, and one that has none is missed
-grabs_or_misses : (F : FramesValue) (S : SpaceValue) (w : WalkValue) (page : ℕ) (e : Entry) (count : ℕ) → w.stage ≡ at (read page e) → AreWalkEvents (change F (grabbed_frames e.frame count F) S S) w (at_stage (at (step_after_grab page e count)) w) (λ s a p. grabs a p page count e w)
-grabs_or_misses F S w page e zero is s a p frames space walk = (
+grabs_or_misses : (F : FramesValue) (S : SpaceValue) (w : WalkValue) (page : ℕ) (path : List ℕ) (e : Entry) (count : ℕ) → w.stage ≡ at (read page path e) → AreWalkEvents (change F (grabbed_frames e.frame count F) S S) w (at_stage (at (step_after_grab page path e count)) w) (λ s a p. grabs a p page count path e w)
+grabs_or_misses F S w page path e zero is s a p frames space walk = (
   record { movable = frames.movable; normal = frames.normal; count = frames.count; mark = frames.mark; word = frames.word; needs_tables = frames.needs_tables },
-  record { right = space.right; pages = space.pages; entry = space.entry; sequence = space.sequence; has_pinned = space.has_pinned; structure = space.structure; table = space.table; walks = space.walks ∙ sym (stays w.stage (read page e) _ S.walks is); place = space.place; retired = space.retired },
+  record { right = space.right; pages = space.pages; entry = space.entry; sequence = space.sequence; has_pinned = space.has_pinned; structure = space.structure; table = space.table; walks = space.walks ∙ sym (stays w.stage (read page path e) _ S.walks is); place = space.place; retired = space.retired },
   record { job = own a _ s.job; taken = walk.taken },
 )
-grabs_or_misses F S w page e (suc n) is s a p frames space walk = (
+grabs_or_misses F S w page path e (suc n) is s a p frames space walk = (
   record { movable = frames.movable; normal = frames.normal; count = λ g. grind (arith, nat_tests, frames.count g, frames.count e.frame); mark = frames.mark; word = frames.word; needs_tables = frames.needs_tables },
-  record { right = space.right; pages = space.pages; entry = space.entry; sequence = space.sequence; has_pinned = space.has_pinned; structure = space.structure; table = space.table; walks = space.walks ∙ sym (stays w.stage (read page e) _ S.walks is); place = space.place; retired = space.retired },
+  record { right = space.right; pages = space.pages; entry = space.entry; sequence = space.sequence; has_pinned = space.has_pinned; structure = space.structure; table = space.table; walks = space.walks ∙ sym (stays w.stage (read page path e) _ S.walks is); place = space.place; retired = space.retired },
   record { job = own a _ s.job; taken = walk.taken },
 )
 
-pub grabbing : (F F' : FramesValue) (S : SpaceValue) (w w' : WalkValue) (page : ℕ) (e : Entry) (count : ℕ) → w.stage ≡ at (read page e) → F' ≡ grabbed_frames e.frame count F → w' ≡ at_stage (at (step_after_grab page e count)) w → AreWalkEvents (change F F' S S) w w' (λ s a p. grabs a p page count e w)
-grabbing F F' S w w' page e count is frames walk =
-    rw frames (rw walk (grabs_or_misses F S w page e count is))
+pub grabbing : (F F' : FramesValue) (S : SpaceValue) (w w' : WalkValue) (page : ℕ) (path : List ℕ) (e : Entry) (count : ℕ) → w.stage ≡ at (read page path e) → F' ≡ grabbed_frames e.frame count F → w' ≡ at_stage (at (step_after_grab page path e count)) w → AreWalkEvents (change F F' S S) w w' (λ s a p. grabs a p page count path e w)
+grabbing F F' S w w' page path e count is frames walk =
+    rw frames (rw walk (grabs_or_misses F S w page path e count is))
 
 -- the last page taken is the one that was put at the end
 ends_with : (taken : List ℕ) (f : ℕ) → last_of (taken ++ f ∷ []) ≡ Some f
@@ -39,8 +40,8 @@ ends_with (g ∷ []) f = refl
 ends_with (g ∷ h ∷ taken) f = ends_with (h ∷ taken) f
 
 -- the page whose entry is the same is the last one taken
-pub takes_page : (w : WalkValue) (page : ℕ) (e : Entry) (taken : List ℕ) → IsWalk w → w.stage ≡ at (grabbed page e) → taken ≡ w.taken ++ e.frame ∷ [] → IsWalk (record w { taken = taken; stage = at (rechecked page e) })
-takes_page w page e taken is stage more =
+pub takes_page : (w : WalkValue) (page : ℕ) (path : List ℕ) (e : Entry) (taken : List ℕ) → IsWalk w → w.stage ≡ at (grabbed page path e) → taken ≡ w.taken ++ e.frame ∷ [] → IsWalk (record w { taken = taken; stage = at (rechecked page e) })
+takes_page w page path e taken is stage more =
     let ahead : IsAhead w page = subst (FitsStage w) stage is.fits in
     let len : length taken ≡ length w.taken + 1 = ap (λ xs. length xs) more ∙ length-append w.taken (e.frame ∷ []) in
     record {
@@ -51,18 +52,26 @@ takes_page w page e taken is stage more =
       fits = record { here = omega (arith, len, ahead.here); frame = ap last_of more ∙ ends_with w.taken e.frame };
     }
 
--- the entry is the same or another
-same_or_other : (F : FramesValue) (S : SpaceValue) (w : WalkValue) (page : ℕ) (e : Entry) (same : Bool) → w.stage ≡ at (grabbed page e) → AreWalkEvents (change F F S S) w (if same then record w { taken = w.taken ++ e.frame ∷ []; stage = at (rechecked page e) } else at_stage (at (differed e.frame)) w) (λ s a p. if same then recheck_same a p w.want.write w.want.long w.sequence page e ∷ [] else recheck_other a p w.want.write w.want.long w.sequence page e ∷ [])
-same_or_other F S w page e true is s a p frames space walk = (
+-- the word above and the entry are the same, or one is another
+same_or_other : (F : FramesValue) (S : SpaceValue) (w : WalkValue) (page : ℕ) (path : List ℕ) (e : Entry) (leads same : Bool) → w.stage ≡ at (grabbed page path e)
+    → AreWalkEvents (change F F S S) w (if leads && same then record w { taken = w.taken ++ e.frame ∷ []; stage = at (rechecked page e) } else at_stage (at (differed e.frame)) w) (λ s a p. rechecks a p page path e leads same w)
+same_or_other F S w page path e true true is s a p frames space walk = (
   record { movable = frames.movable; normal = frames.normal; count = frames.count; mark = frames.mark; word = frames.word; needs_tables = frames.needs_tables },
-  record { right = space.right; pages = space.pages; entry = space.entry; sequence = space.sequence; has_pinned = space.has_pinned; structure = space.structure; table = space.table; walks = space.walks ∙ sym (stays w.stage (grabbed page e) _ S.walks is); place = space.place; retired = space.retired },
-  record { job = own a _ s.job; taken = ap taken_frames (own a _ s.taken) ∙ map-append (λ (t : Taken). t.frame) (s.taken a) _ ∙ ap (λ xs. xs ++ e.frame ∷ []) walk.taken },
+  record { right = space.right; pages = space.pages; entry = space.entry; sequence = space.sequence; has_pinned = space.has_pinned; structure = space.structure; table = space.table; walks = space.walks ∙ sym (stays w.stage (grabbed page path e) _ S.walks is); place = space.place; retired = space.retired },
+  record { job = own a _ (happens s (recheck_above a p w.want.write w.want.long w.sequence page path e true)).job; taken = ap taken_frames (own a _ s.taken) ∙ map-append (λ (t : Taken). t.frame) (s.taken a) _ ∙ ap (λ xs. xs ++ e.frame ∷ []) walk.taken },
 )
-same_or_other F S w page e false is s a p frames space walk = (
+same_or_other F S w page path e true false is s a p frames space walk = (
   record { movable = frames.movable; normal = frames.normal; count = frames.count; mark = frames.mark; word = frames.word; needs_tables = frames.needs_tables },
-  record { right = space.right; pages = space.pages; entry = space.entry; sequence = space.sequence; has_pinned = space.has_pinned; structure = space.structure; table = space.table; walks = space.walks ∙ sym (stays w.stage (grabbed page e) _ S.walks is); place = space.place; retired = space.retired },
+  record { right = space.right; pages = space.pages; entry = space.entry; sequence = space.sequence; has_pinned = space.has_pinned; structure = space.structure; table = space.table; walks = space.walks ∙ sym (stays w.stage (grabbed page path e) _ S.walks is); place = space.place; retired = space.retired },
+  record { job = own a _ (happens s (recheck_above a p w.want.write w.want.long w.sequence page path e true)).job; taken = walk.taken },
+)
+same_or_other F S w page path e false same is s a p frames space walk = (
+  record { movable = frames.movable; normal = frames.normal; count = frames.count; mark = frames.mark; word = frames.word; needs_tables = frames.needs_tables },
+  record { right = space.right; pages = space.pages; entry = space.entry; sequence = space.sequence; has_pinned = space.has_pinned; structure = space.structure; table = space.table; walks = space.walks ∙ sym (stays w.stage (grabbed page path e) _ S.walks is); place = space.place; retired = space.retired },
   record { job = own a _ s.job; taken = walk.taken },
 )
 
-pub rechecking : (F : FramesValue) (S : SpaceValue) (w w' : WalkValue) (page : ℕ) (e : Entry) (now : Option Entry) → w.stage ≡ at (grabbed page e) → w' ≡ after_recheck page e now w → AreWalkEvents (change F F S S) w w' (λ s a p. rechecks a p page e now w)
-rechecking F S w w' page e now is walk = rw walk (same_or_other F S w page e (is_same e now) is)
+pub rechecking : (F : FramesValue) (S : SpaceValue) (w w' : WalkValue) (page : ℕ) (path : List ℕ) (e : Entry) → w.stage ≡ at (grabbed page path e) → w' ≡ after_recheck (tables_in S) page path e w
+    → AreWalkEvents (change F F S S) w w' (λ s a p. rechecks a p page path e (leads_still (tables_in S) path page) (is_same e (entry_at (tables_in S) path page)) w)
+rechecking F S w w' page path e is walk =
+    rw walk (same_or_other F S w page path e (leads_still (tables_in S) path page) (is_same e (entry_at (tables_in S) path page)) is)

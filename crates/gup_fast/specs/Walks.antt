@@ -1,13 +1,16 @@
 -- A lockless walk: where it stands, what its steps find, and what they are to a state of the core machine.
-use Rattle.std.specs.Prelude.{◌≡◌, ℕ, ◌+◌, ◌-◌, ◌<◌, ◌≤◌, ◌^◌, ◌==◌, ◌&&◌, ◌||◌, not, nat_lt, Bool, true, false, if◌then◌else◌, List, [], ◌∷◌, ◌++◌, length, take, Option, Some, None, zero, suc}
+use Rattle.std.specs.Prelude.{◌≡◌, ℕ, ◌+◌, ◌-◌, ◌/◌, ◌%◌, ◌<◌, ◌≤◌, ◌^◌, ◌==◌, ◌&&◌, ◌||◌, not, nat_lt, Bool, true, false, if◌then◌else◌, List, [], ◌∷◌, ◌++◌, length, take, Option, Some, None, zero, suc}
 use Rattle.gup_base.specs.Packing.{pack_of}
 use Rattle.gup_base.specs.declared.entry.Entry.{Entry}
 use Rattle.gup_base.specs.declared.entry.Want.{Want}
 use Rattle.gup_frames.specs.Frames.{FramesValue, with_references, without_references}
 use Rattle.gup_space.specs.Shows.{Change, ShowsFrames, ShowsSpace}
-use Rattle.gup_space.specs.Space.{SpaceValue}
-use Rattle.gup_spec_events.specs.State.{CoreState, Job, idle, walking, Taken, WalkStep, entered, ready, read, grabbed, rechecked, differed, refused, stopped, dropping}
-use Rattle.gup_spec_events.specs.Event.{CoreEvent, is_odd, taken_frames, run, raise_flag, enter_walk, read_sequence, grab_frame, miss_frame, recheck_same, recheck_other, read_again, drop_grab, drop_last, drop_first, leave_walk}
+use Rattle.gup_space.specs.Space.{SpaceValue, tables_in}
+use Rattle.gup_spec_tables.specs.Tables.{TreeValue, link_to, word_of}
+use Rattle.gup_spec_tables.specs.Paths.{entry_at, leads_still, path_to}
+use Rattle.gup_tables.specs.Path.{tables_on}
+use Rattle.gup_spec_events.specs.State.{CoreState, Job, idle, walking, Taken, WalkStep, entered, ready, reading, read, grabbed, rechecked, differed, refused, stopped, dropping}
+use Rattle.gup_spec_events.specs.Event.{CoreEvent, is_odd, taken_frames, run, raise_flag, enter_walk, read_sequence, grab_frame, miss_frame, recheck_above, recheck_same, recheck_other, read_again, drop_grab, drop_last, drop_first, leave_walk}
 use Rattle.gup_fast.specs.declared.walk.GiveUp.{GiveUp}
 use Rattle.gup_fast.specs.declared.walk.Step.{Step}
 use Rattle.gup_fast.specs.declared.walk.Step.TheVariants.{Flag, Sequence, Read, Grab, Recheck, Mark, Again, Drop, Nothing}
@@ -55,11 +58,11 @@ kept_at stage taken = taken
 -- what the next step may be
 
 abbrev pub MayGrab : Stage → Type 0
-MayGrab (at (read page e)) = Unit {0}
+MayGrab (at (read page path e)) = Unit {0}
 MayGrab stage = ⊥
 
 abbrev pub MayRecheck : Stage → Type 0
-MayRecheck (at (grabbed page e)) = Unit {0}
+MayRecheck (at (grabbed page path e)) = Unit {0}
 MayRecheck stage = ⊥
 
 abbrev pub MayReadMark : Stage → Type 0
@@ -99,6 +102,21 @@ is_same e (Some d) = (e.frame == d.frame) && (if e.writable then d.writable else
 abbrev pub entry_again : (was : Entry) → Option Entry → Option GiveUp
 entry_again was now = if is_same was now then None else Some (EntryChanged (pack_of (Some was)) (pack_of now))
 
+-- the word above that led to the path's last table, and what it is now
+abbrev pub link_of : (path : List ℕ) → ℕ
+link_of [] = 0
+link_of (last ∷ path) = link_to (Some last)
+
+abbrev pub link_now : TreeValue → (page : ℕ) → (path : List ℕ) → ℕ
+link_now v page (last ∷ second ∷ path) = word_of v second (page / 512 % 512)
+link_now v page path = 0
+
+-- the word above is read again, and where it leads on as it did the entry
+abbrev pub found_again : TreeValue → (page : ℕ) → (path : List ℕ) → (was : Entry) → Option GiveUp
+found_again v page path was =
+    if leads_still v path page then entry_again was (entry_at v path page)
+    else Some (EntryChanged (link_of path) (link_now v page path))
+
 abbrev pub mark_found : (writable mark : Bool) → Option GiveUp
 mark_found writable mark = if writable || mark then None else Some Unmarked
 
@@ -114,22 +132,30 @@ abbrev pub stopped_if : Option GiveUp → WalkStep → WalkStep
 stopped_if (Some why) step = stopped
 stopped_if None step = step
 
-abbrev pub step_after_read : FramesValue → Want → (page : ℕ) → Option Entry → WalkStep
-step_after_read frames want page None = stopped
-step_after_read frames want page (Some e) = stopped_if (wrong_for frames want e) (read page e)
+-- the entry that is read down the page's path
+abbrev pub entry_down_in : TreeValue → (page : ℕ) → Option Entry
+entry_down_in v page = entry_at v (path_to v page) page
+
+abbrev pub step_after_read : FramesValue → Want → (page : ℕ) → (path : List ℕ) → Option Entry → WalkStep
+step_after_read frames want page path None = stopped
+step_after_read frames want page path (Some e) = stopped_if (wrong_for frames want e) (read page path e)
 
 -- a frame that has a reference gets the weight of a pin
 abbrev pub grabbed_frames : (f count : ℕ) → FramesValue → FramesValue
 grabbed_frames f zero frames = frames
 grabbed_frames f (suc n) frames = with_references f 1024 frames
 
-abbrev pub step_after_grab : (page : ℕ) → Entry → (count : ℕ) → WalkStep
-step_after_grab page e zero = stopped
-step_after_grab page e (suc n) = grabbed page e
+abbrev pub step_after_grab : (page : ℕ) → (path : List ℕ) → Entry → (count : ℕ) → WalkStep
+step_after_grab page path e zero = stopped
+step_after_grab page path e (suc n) = grabbed page path e
 
-abbrev pub after_recheck : (page : ℕ) → Entry → Option Entry → WalkValue → WalkValue
-after_recheck page e now w =
-    if is_same e now then record w { taken = w.taken ++ e.frame ∷ []; stage = at (rechecked page e) }
+-- is the word above as it was, and so the entry?
+abbrev pub is_kept : TreeValue → (page : ℕ) → (path : List ℕ) → (was : Entry) → Bool
+is_kept v page path was = leads_still v path page && is_same was (entry_at v path page)
+
+abbrev pub after_recheck : TreeValue → (page : ℕ) → (path : List ℕ) → Entry → WalkValue → WalkValue
+after_recheck v page path e w =
+    if is_kept v page path e then record w { taken = w.taken ++ e.frame ∷ []; stage = at (rechecked page e) }
     else at_stage (at (differed e.frame)) w
 
 abbrev pub step_after_mark : (writable mark : Bool) → WalkStep
@@ -182,8 +208,8 @@ abbrev pub IsNext : WalkValue → Step → Type 0
 IsNext w Flag = w.stage ≡ unbegun
 IsNext w Sequence = w.stage ≡ at entered
 IsNext w (Read page) = (w.stage ≡ at ready) × (length w.taken < w.n) × (page ≡ next_page w)
-IsNext w (Grab page e) = w.stage ≡ at (read page e)
-IsNext w (Recheck page e) = w.stage ≡ at (grabbed page e)
+IsNext w (Grab page path e) = w.stage ≡ at (read page (tables_on path) e)
+IsNext w (Recheck page path e) = w.stage ≡ at (grabbed page (tables_on path) e)
 IsNext w (Mark page e) = w.stage ≡ at (rechecked page e)
 IsNext w Again = MayReadAgain w w.stage
 IsNext w (Drop f) = dropped_at w.stage w.taken ≡ Some f
@@ -201,14 +227,18 @@ abbrev pub reads_sequence : (a p sequence : ℕ) → WalkValue → List CoreEven
 reads_sequence a p sequence w =
     read_sequence a p w.want.write w.want.long sequence ∷ leaves_if (is_odd sequence) a p w.want sequence
 
-abbrev pub grabs : (a p page count : ℕ) → Entry → WalkValue → List CoreEvent
-grabs a p page zero e w = miss_frame a p w.want.write w.want.long w.sequence page e ∷ []
-grabs a p page (suc n) e w = grab_frame a p w.want.write w.want.long w.sequence page e ∷ []
+abbrev pub grabs : (a p page count : ℕ) → (path : List ℕ) → Entry → WalkValue → List CoreEvent
+grabs a p page zero path e w = miss_frame a p w.want.write w.want.long w.sequence page path e ∷ []
+grabs a p page (suc n) path e w = grab_frame a p w.want.write w.want.long w.sequence page path e ∷ []
 
-abbrev pub rechecks : (a p page : ℕ) → Entry → Option Entry → WalkValue → List CoreEvent
-rechecks a p page e now w =
-    if is_same e now then recheck_same a p w.want.write w.want.long w.sequence page e ∷ []
-    else recheck_other a p w.want.write w.want.long w.sequence page e ∷ []
+abbrev pub rechecks_entry : (a p page : ℕ) → (path : List ℕ) → Entry → (same : Bool) → WalkValue → List CoreEvent
+rechecks_entry a p page path e true w = recheck_same a p w.want.write w.want.long w.sequence page path e ∷ []
+rechecks_entry a p page path e false w = recheck_other a p w.want.write w.want.long w.sequence page path e ∷ []
+
+abbrev pub rechecks : (a p page : ℕ) → (path : List ℕ) → Entry → (leads same : Bool) → WalkValue → List CoreEvent
+rechecks a p page path e leads same w =
+    recheck_above a p w.want.write w.want.long w.sequence page path e leads
+    ∷ (if leads then rechecks_entry a p page path e same w else [])
 
 -- nothing is left to be dropped
 abbrev pub is_none_left : List ℕ → Bool
@@ -303,8 +333,9 @@ pub record IsTakenLast (w : WalkValue) (page : ℕ) (e : Entry) : Type 0 where
 abbrev pub FitsStage : WalkValue → Stage → Type 0
 FitsStage w unbegun = (w.taken ≡ []) × (w.sequence ≡ 0)
 FitsStage w (at entered) = w.taken ≡ []
-FitsStage w (at (read page e)) = IsAhead w page
-FitsStage w (at (grabbed page e)) = IsAhead w page
+FitsStage w (at (reading page path)) = ⊥
+FitsStage w (at (read page path e)) = IsAhead w page
+FitsStage w (at (grabbed page path e)) = IsAhead w page
 FitsStage w (at (rechecked page e)) = IsTakenLast w page e
 FitsStage w (at refused) = 0 < length w.taken
 FitsStage w (at dropping) = 0 < length w.taken

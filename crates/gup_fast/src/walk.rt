@@ -1,18 +1,23 @@
 //! A walk, step by step.
-ghost use Rattle.std.specs.Prelude.{◌≡◌, ℕ, ◌+◌, ◌<◌, ◌≤◌, ◌^◌, [], ◌∷◌, true, is_some, length, Some, None, IfSome};
+ghost use Rattle.std.specs.Prelude.{◌≡◌, ℕ, ◌+◌, ◌<◌, ◌≤◌, ◌^◌, [], ◌∷◌, true, is_some, length, List, Some, None, IfSome};
+ghost use Rattle.std.specs.Option.{option_map};
 ghost use Rattle.gup_base.specs.declared.entry.Entry.{Entry as EntryValue};
 ghost use Rattle.gup_frames.specs.Frames.{FrameLists, frames_of, IsFrame};
-ghost use Rattle.gup_space.specs.Space.{SpaceParts, space_of};
+ghost use Rattle.gup_space.specs.Space.{SpaceParts, space_of, tables_in};
+ghost use Rattle.gup_spec_tables.specs.Paths.{entry_at, leads_still, path_to, KeepsPath};
 ghost use Rattle.gup_space.specs.Shows.{change_of};
 ghost use Rattle.gup_spec_events.specs.State.{WalkStep, entered, ready, read, grabbed, rechecked};
-ghost use Rattle.gup_spec_events.specs.Event.{read_entry, read_mark};
+ghost use Rattle.gup_spec_events.specs.Event.{read_mark};
+ghost use Rattle.gup_spec_events.specs.Descent.{reads_down};
+ghost use Rattle.gup_tables.specs.Path.{tables_on};
 ghost use Rattle.gup_fast.specs.Stages.{stage_of};
-ghost use Rattle.gup_fast.specs.Walks.{unbegun, at, new_walk, walk_at, at_stage, next_page, kept_at, MayGrab, MayRecheck, MayReadMark, MayReadAgain, sequence_found, entry_found, count_found, entry_again, mark_found, sequence_again, IsNext, after_sequence, step_after_read, grabbed_frames, step_after_grab, after_recheck, step_after_mark, after_again, stage_left as stage_left_of, dropped_at, dropped_frames, after_drop, flags, reads_sequence, grabs, rechecks, reads_again, drops, AreWalkEvents, IsWalk};
+ghost use Rattle.gup_fast.specs.Walks.{unbegun, at, new_walk, walk_at, at_stage, next_page, kept_at, MayGrab, MayRecheck, MayReadMark, MayReadAgain, sequence_found, entry_found, count_found, entry_again, found_again, is_same, mark_found, sequence_again, IsNext, after_sequence, step_after_read, entry_down_in, grabbed_frames, step_after_grab, after_recheck, step_after_mark, after_again, stage_left as stage_left_of, dropped_at, dropped_frames, after_drop, flags, reads_sequence, grabs, rechecks, reads_again, drops, AreWalkEvents, IsWalk};
 
 use arrayvec::ArrayVec;
 use gup_base::{Entry, FrameNo, PIN_BIAS, PageNo, Want, Zone, pack};
 use gup_frames::Frames;
 use gup_space::Space;
+use gup_tables::{Path, index, link};
 use std::marker::Model;
 
 /// What a walk read, for which it has no page, stops before one, or keeps none. The slow way goes on from there.
@@ -31,7 +36,7 @@ pub enum GiveUp {
     MovableFrame(FrameNo),
     /// The frame of the page's entry was free when its count was read.
     CountZero,
-    /// The page's entry was another when it was read again. These are the words of the page table.
+    /// The page's entry was another when it was read again, or the word above it was. These are the words of the page table.
     EntryChanged { first: u64, second: u64 },
     /// The page's entry was read-only and its frame unmarked, so others may share it.
     Unmarked,
@@ -46,12 +51,23 @@ pub enum Step {
     Sequence,
     /// [`Walk::read`] of this page.
     Read(PageNo),
-    /// [`Walk::grab`] of the frame of this entry, which the page had.
-    Grab { page: PageNo, entry: Entry },
-    /// [`Walk::recheck`] of this entry, which the page had.
-    Recheck { page: PageNo, entry: Entry },
+    /// [`Walk::grab`] of the frame of this entry, which was read down this path of the page.
+    Grab {
+        page: PageNo,
+        path: Path,
+        entry: Entry,
+    },
+    /// [`Walk::recheck`] of this path of the page, and of this entry at its end.
+    Recheck {
+        page: PageNo,
+        path: Path,
+        entry: Entry,
+    },
     /// [`Walk::mark`] of the frame of this entry, which the page has twice had.
-    Mark { page: PageNo, entry: Entry },
+    Mark {
+        page: PageNo,
+        entry: Entry,
+    },
     /// [`Walk::again`].
     Again,
     /// [`Walk::drop_one`] of this frame.
@@ -69,12 +85,23 @@ pub enum Stage {
     Entered,
     /// The entry of the next page is to be read, or after the last page the sequence again.
     Ready,
-    /// The page had this entry; its frame is to be grabbed.
-    Read { page: PageNo, entry: Entry },
-    /// The frame is grabbed, and the entry is to be read again.
-    Grabbed { page: PageNo, entry: Entry },
+    /// This entry was read down this path of the page; its frame is to be grabbed.
+    Read {
+        page: PageNo,
+        path: Path,
+        entry: Entry,
+    },
+    /// The frame is grabbed; the word above the path's last table, and the entry, are to be read again.
+    Grabbed {
+        page: PageNo,
+        path: Path,
+        entry: Entry,
+    },
     /// The entry was the same, and the page is taken; the frame's mark is to be read.
-    Rechecked { page: PageNo, entry: Entry },
+    Rechecked {
+        page: PageNo,
+        entry: Entry,
+    },
     /// The page had another entry than this frame's, which is to be dropped.
     Differed(FrameNo),
     /// The frame of the last page taken wasn't marked, and is to be dropped.
@@ -197,8 +224,8 @@ impl Walk {
             Stage::Entered => Step::Sequence,
             Stage::Ready if taken.len() < usize::from(self.n) => Step::Read(self.next_page()),
             Stage::Ready | Stage::Stopped => Step::Again,
-            Stage::Read { page, entry } => Step::Grab { page, entry },
-            Stage::Grabbed { page, entry } => Step::Recheck { page, entry },
+            Stage::Read { page, path, entry } => Step::Grab { page, path, entry },
+            Stage::Grabbed { page, path, entry } => Step::Recheck { page, path, entry },
             Stage::Rechecked { page, entry } => Step::Mark { page, entry },
             Stage::Differed(frame) => Step::Drop(frame),
             Stage::Refused => Step::Drop(taken[taken.len() - 1]),
@@ -241,23 +268,25 @@ impl Walk {
         None
     }
 
-    /// Reads the entry of the next page. The walk stops before it exactly where it is absent, read-only for a pin to
-    /// write, or where its frame is movable for a pin that is for long, in this order (Linux's `gup_fast_pte_range`:
-    /// `pte_access_permitted`, and `folio_is_longterm_pinnable` in `try_grab_folio_fast`; that the zone is looked at
-    /// before the frame is grabbed is this project's own).
+    /// Reads down the path of the next page: a word of the root and of each table to which the word before leads, and the
+    /// entry in the last one. The walk stops before the page exactly where a table or the entry is absent, where that is
+    /// read-only for a pin to write, or where its frame is movable for a pin that is for long, in this order (Linux's
+    /// `gup_fast_pgd_range` to `gup_fast_pte_range`: `pte_access_permitted`, and `folio_is_longterm_pinnable` in
+    /// `try_grab_folio_fast`; that the zone is looked at before the frame is grabbed is this project's own).
     pub fn read(&mut self, space: &Space, frames: &Frames) -> Option<GiveUp>
         requires at { self.old.stage ≡ at ready }
         requires more { length self.old.taken < self.old.n }
         requires there { IfSome ((space_of space.now).entry (next_page self.old)) (λ e. IsFrame (frames_of frames.now) e.frame) }
-        ensures found { result ≡ entry_found (frames_of frames.now) self.old.want ((space_of space.now).entry (next_page self.old)) }
+        ensures found { result ≡ entry_found (frames_of frames.now) self.old.want
+            (entry_down_in (tables_in (space_of space.now)) (next_page self.old)) }
         ensures walk { self.new ≡ at_stage (at (step_after_read (frames_of frames.now) self.old.want (next_page self.old)
-            ((space_of space.now).entry (next_page self.old)))) self.old }
+            (path_to (tables_in (space_of space.now)) (next_page self.old))
+            (entry_down_in (tables_in (space_of space.now)) (next_page self.old)))) self.old }
         ensures events { AreWalkEvents (change_of frames.now frames.now space.now space.now) self.old self.new
-            (λ s a p. read_entry a p self.old.want.write self.old.want.long self.old.sequence (next_page self.old)
-            ((space_of space.now).entry (next_page self.old)) ∷ []) }
+            (λ s a p. reads_down s a p self.old.want.write self.old.want.long self.old.sequence (next_page self.old)) }
     {
         let page = self.next_page();
-        let Some(entry) = space.entry(page) else {
+        let Some((path, entry)) = read_down(space, page) else {
             self.stage = Stage::Stopped;
             return Some(GiveUp::Absent);
         };
@@ -269,7 +298,7 @@ impl Walk {
             self.stage = Stage::Stopped;
             return Some(GiveUp::MovableFrame(entry.frame));
         }
-        self.stage = Stage::Read { page, entry };
+        self.stage = Stage::Read { page, path, entry };
         None
     }
 
@@ -278,21 +307,21 @@ impl Walk {
     /// `folio_ref_try_add`; that the weight is added in one step is this project's own, Linux adds 1 and then 1,023).
     pub fn grab(&mut self, frames: &mut Frames) -> Option<GiveUp>
         requires at { MayGrab self.old.stage }
-        requires there { (page : ℕ) (e : EntryValue) → self.old.stage ≡ at (read page e)
+        requires there { (page : ℕ) (path : List ℕ) (e : EntryValue) → self.old.stage ≡ at (read page path e)
             → IsFrame (frames_of frames.old) e.frame }
         requires few { (f : ℕ) → (frames_of frames.old).count f < 2 ^ 40 }
-        ensures found { (page : ℕ) (e : EntryValue) → self.old.stage ≡ at (read page e)
+        ensures found { (page : ℕ) (path : List ℕ) (e : EntryValue) → self.old.stage ≡ at (read page path e)
             → result ≡ count_found ((frames_of frames.old).count e.frame) }
-        ensures frames { (page : ℕ) (e : EntryValue) → self.old.stage ≡ at (read page e)
+        ensures frames { (page : ℕ) (path : List ℕ) (e : EntryValue) → self.old.stage ≡ at (read page path e)
             → frames_of frames.new ≡ grabbed_frames e.frame ((frames_of frames.old).count e.frame) (frames_of frames.old) }
-        ensures walk { (page : ℕ) (e : EntryValue) → self.old.stage ≡ at (read page e)
-            → self.new ≡ at_stage (at (step_after_grab page e ((frames_of frames.old).count e.frame))) self.old }
-        ensures events { (space : SpaceParts) (page : ℕ) (e : EntryValue) → self.old.stage ≡ at (read page e)
+        ensures walk { (page : ℕ) (path : List ℕ) (e : EntryValue) → self.old.stage ≡ at (read page path e)
+            → self.new ≡ at_stage (at (step_after_grab page path e ((frames_of frames.old).count e.frame))) self.old }
+        ensures events { (space : SpaceParts) (page : ℕ) (path : List ℕ) (e : EntryValue) → self.old.stage ≡ at (read page path e)
             → AreWalkEvents (change_of frames.old frames.new space space) self.old self.new
-            (λ s a p. grabs a p page ((frames_of frames.old).count e.frame) e self.old) }
+            (λ s a p. grabs a p page ((frames_of frames.old).count e.frame) path e self.old) }
     {
         let stage = self.stage;
-        let Stage::Read { page, entry } = stage else {
+        let Stage::Read { page, path, entry } = stage else {
             return None;
         };
         if frames.count(entry.frame) == 0 {
@@ -300,28 +329,34 @@ impl Walk {
             return Some(GiveUp::CountZero);
         }
         frames.grab(entry.frame, PIN_BIAS);
-        self.stage = Stage::Grabbed { page, entry };
+        self.stage = Stage::Grabbed { page, path, entry };
         None
     }
 
-    /// Reads the page's entry again. Where it is the same the page is taken: the pin names what the page names now.
-    /// Where it is another, the grabbed frame is to be dropped, and the walk stops (Linux's
+    /// Reads the word above the path's last table again, and where that still leads to it the page's entry. Where that is
+    /// the same, too, the page is taken: the pin names what the page names now. Where one is another, the grabbed frame is
+    /// to be dropped, and the walk stops (Linux's `pmd_val(pmd) != pmd_val(*pmdp)` and
     /// `pte_val(pte) != pte_val(ptep_get(ptep))` in `gup_fast_pte_range`).
+    ///
+    /// The process has kept the tables that the walk went through: each stands where it stood, or was taken out and is empty.
     pub fn recheck(&mut self, space: &Space) -> Option<GiveUp>
         requires at { MayRecheck self.old.stage }
-        ensures found { (page : ℕ) (e : EntryValue) → self.old.stage ≡ at (grabbed page e)
-            → result ≡ entry_again e ((space_of space.now).entry page) }
-        ensures walk { (page : ℕ) (e : EntryValue) → self.old.stage ≡ at (grabbed page e)
-            → self.new ≡ after_recheck page e ((space_of space.now).entry page) self.old }
-        ensures events { (frames : FrameLists) (page : ℕ) (e : EntryValue) → self.old.stage ≡ at (grabbed page e)
+        requires kept { (page : ℕ) (path : List ℕ) (e : EntryValue) → self.old.stage ≡ at (grabbed page path e)
+            → KeepsPath (tables_in (space_of space.now)) path page }
+        ensures found { (page : ℕ) (path : List ℕ) (e : EntryValue) → self.old.stage ≡ at (grabbed page path e)
+            → result ≡ found_again (tables_in (space_of space.now)) page path e }
+        ensures walk { (page : ℕ) (path : List ℕ) (e : EntryValue) → self.old.stage ≡ at (grabbed page path e)
+            → self.new ≡ after_recheck (tables_in (space_of space.now)) page path e self.old }
+        ensures events { (frames : FrameLists) (page : ℕ) (path : List ℕ) (e : EntryValue) → self.old.stage ≡ at (grabbed page path e)
             → AreWalkEvents (change_of frames frames space.now space.now) self.old self.new
-            (λ s a p. rechecks a p page e ((space_of space.now).entry page) self.old) }
+            (λ s a p. rechecks a p page path e (leads_still (tables_in (space_of space.now)) path page)
+            (is_same e (entry_at (tables_in (space_of space.now)) path page)) self.old) }
     {
         let stage = self.stage;
-        let Stage::Grabbed { page, entry } = stage else {
+        let Stage::Grabbed { page, path, entry } = stage else {
             return None;
         };
-        let changed = entry_changed(&entry, space.entry(page));
+        let changed = read_again(space, page, &path, &entry);
         if changed.is_some() {
             self.stage = Stage::Differed(entry.frame);
             return changed;
@@ -456,6 +491,31 @@ impl Walk {
     {
         PageNo::new(self.page.get() + self.taken.len() as u64).unwrap()
     }
+}
+
+// What is read down the page's path: its tables, and the entry at its end. None where a table or the entry is missing.
+fn read_down(space: &Space, page: PageNo) -> Option<(Path, Entry)>
+    ensures path { IfSome result (λ r. path_to (tables_in (space_of space.now)) page ≡ tables_on r.0) }
+    ensures entry { entry_down_in (tables_in (space_of space.now)) page ≡ option_map (λ r. r.1) result }
+{
+    space.has_path(page);
+    let path = space.path(page)?;
+    let entry = space.entry_by(&path, page)?;
+    Some((path, entry))
+}
+
+// What a walk that read this entry down this path finds where it reads the word above and the entry again.
+fn read_again(space: &Space, page: PageNo, path: &Path, entry: &Entry) -> Option<GiveUp>
+    requires { KeepsPath (tables_in (space_of space.now)) (tables_on path.now) page }
+    ensures { result ≡ found_again (tables_in (space_of space.now)) page (tables_on path.now) entry.now }
+{
+    if !space.leads(path, page) {
+        return Some(GiveUp::EntryChanged {
+            first: link(path.last),
+            second: space.word_at(path.second, index(page, 2) as u16),
+        });
+    }
+    entry_changed(entry, space.entry_by(path, page))
 }
 
 // What a walk that read this entry finds where the page has this one now: nothing, if it is the same.

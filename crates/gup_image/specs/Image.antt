@@ -103,8 +103,8 @@ store_facts a (Some items) = along (stored_fact a) items
 
 -- the page of a walk, where its next turn rests on it, and else 0
 abbrev pub read_page : WalkPlace → (page : ℕ) → ℕ
-read_page (Read entry) page = page
-read_page (Grabbed entry) page = page
+read_page (Read path entry) page = page
+read_page (Grabbed path entry) page = page
 read_page (Rechecked entry) page = page
 read_page Dropping page = page
 read_page place page = 0

@@ -156,7 +156,7 @@ fn page_read(place: &WalkPlace, page: PageNo) -> PageNo
     ensures { result ≡ read_page place.now page }
 {
     match place {
-        WalkPlace::Read(_) | WalkPlace::Grabbed(_) | WalkPlace::Rechecked(_) => page,
+        WalkPlace::Read { .. } | WalkPlace::Grabbed { .. } | WalkPlace::Rechecked(_) => page,
         WalkPlace::Dropping => page,
         WalkPlace::Entered | WalkPlace::Ready | WalkPlace::Differed(_) => first_page(),
         WalkPlace::Refused | WalkPlace::Stopped => first_page(),

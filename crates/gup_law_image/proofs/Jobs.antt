@@ -1,7 +1,8 @@
 -- What an image keeps of where a job stands.
-use Rattle.std.proofs.Common.{◌≡◌, ℕ, Option, Some, None, refl, sym, ap, ◌∙◌}
-use Rattle.gup_spec_events.specs.State.{unread, one, more, WalkStep, entered, ready, read, grabbed, rechecked, differed, refused, stopped, dropping, over}
+use Rattle.std.proofs.Common.{◌≡◌, ℕ, List, ◌∷◌, Option, Some, None, refl, sym, ap, ◌∙◌}
+use Rattle.gup_spec_events.specs.State.{unread, one, more, WalkStep, entered, ready, reading, read, grabbed, rechecked, differed, refused, stopped, dropping, over}
 use Rattle.gup_spec_turns.specs.JobPlace.{JobPlace, unbegun, from_page, at_page, wants_frame, at_word, moving_page, in_walk}
+use Rattle.gup_tables.specs.declared.path.Path.{Path}
 use Rattle.gup_op_base.specs.declared.jobs.WalkPlace.{WalkPlace}
 use Rattle.gup_op_base.specs.declared.jobs.WalkPlace.TheVariants.{Entered, Ready, Read, Grabbed, Rechecked, Differed, Refused, Stopped, Dropping}
 use Rattle.gup_op_base.specs.declared.jobs.JobPlace.{JobPlace as KeptPlace}
@@ -17,8 +18,8 @@ use Rattle.gup_law_image.specs.Alike.{IsSameSeat}
 step_kept : (place : WalkPlace) (page : ℕ) → step_of place (read_page place page) ≡ step_of place page
 step_kept Entered page = refl
 step_kept Ready page = refl
-step_kept (Read entry) page = refl
-step_kept (Grabbed entry) page = refl
+step_kept (Read path entry) page = refl
+step_kept (Grabbed path entry) page = refl
 step_kept (Rechecked entry) page = refl
 step_kept (Differed frame) page = refl
 step_kept Refused page = refl
@@ -39,8 +40,8 @@ place_kept (Walking place page sequence) = ap (in_walk sequence) (step_kept plac
 walk_kept : (place : WalkPlace) (page sequence : ℕ) → last_page (Walking place (read_page place page) sequence) ≡ last_page (Walking place page sequence)
 walk_kept Entered page sequence = refl
 walk_kept Ready page sequence = refl
-walk_kept (Read entry) page sequence = refl
-walk_kept (Grabbed entry) page sequence = refl
+walk_kept (Read path entry) page sequence = refl
+walk_kept (Grabbed path entry) page sequence = refl
 walk_kept (Rechecked entry) page sequence = refl
 walk_kept (Differed frame) page sequence = refl
 walk_kept Refused page sequence = refl
@@ -66,12 +67,18 @@ same_last x y same = sym (last_kept x) ∙ ap last_page same ∙ last_kept y
 
 -- ---- and it keeps nothing else
 
+-- the path of these tables, the last one first
+abbrev path_on : List ℕ → Path
+path_on (last ∷ second ∷ third ∷ rest) = record { third = third; second = second; last = last }
+path_on tables = record { third = 0; second = 0; last = 0 }
+
 -- what is kept of a walk that has read this sequence and stands at this step
 abbrev pub walk_of : (sequence : ℕ) → WalkStep → Option ℕ → KeptPlace
 walk_of sequence entered last = Walking Entered 0 sequence
 walk_of sequence ready last = Walking Ready 0 sequence
-walk_of sequence (read page entry) last = Walking (Read entry) page sequence
-walk_of sequence (grabbed page entry) last = Walking (Grabbed entry) page sequence
+walk_of sequence (reading page path) last = Unbegun
+walk_of sequence (read page path entry) last = Walking (Read (path_on path) entry) page sequence
+walk_of sequence (grabbed page path entry) last = Walking (Grabbed (path_on path) entry) page sequence
 walk_of sequence (rechecked page entry) last = Walking (Rechecked entry) page sequence
 walk_of sequence (differed frame) last = Walking (Differed frame) 0 sequence
 walk_of sequence refused last = Walking Refused 0 sequence
@@ -95,8 +102,8 @@ job_of (in_walk sequence step) last = walk_of sequence step last
 walk_back : (place : WalkPlace) (page sequence : ℕ) → Walking place (read_page place page) sequence ≡ walk_of sequence (step_of place page) (last_page (Walking place page sequence))
 walk_back Entered page sequence = refl
 walk_back Ready page sequence = refl
-walk_back (Read entry) page sequence = refl
-walk_back (Grabbed entry) page sequence = refl
+walk_back (Read path entry) page sequence = refl
+walk_back (Grabbed path entry) page sequence = refl
 walk_back (Rechecked entry) page sequence = refl
 walk_back (Differed frame) page sequence = refl
 walk_back Refused page sequence = refl

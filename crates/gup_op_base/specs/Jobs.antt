@@ -2,6 +2,7 @@
 use Rattle.gup_spec_events.specs.State.{unread, one, more, WalkStep, entered, ready, read, grabbed, rechecked, differed, refused, stopped, dropping}
 use Rattle.gup_spec_turns.specs.JobPlace.{JobPlace, unbegun, from_page, at_page, wants_frame, at_word, moving_page, in_walk}
 use Rattle.std.specs.Prelude.{ℕ}
+use Rattle.gup_tables.specs.Path.{tables_on}
 use Rattle.gup_op_base.specs.declared.jobs.WalkPlace.{WalkPlace}
 use Rattle.gup_op_base.specs.declared.jobs.WalkPlace.TheVariants.{Entered, Ready, Read, Grabbed, Rechecked, Differed, Refused, Stopped, Dropping}
 use Rattle.gup_op_base.specs.declared.jobs.JobPlace.{JobPlace as KeptPlace}
@@ -11,8 +12,8 @@ use Rattle.gup_op_base.specs.declared.jobs.JobPlace.TheVariants.{Unbegun, From, 
 abbrev pub step_of : WalkPlace → (page : ℕ) → WalkStep
 step_of Entered page = entered
 step_of Ready page = ready
-step_of (Read entry) page = read page entry
-step_of (Grabbed entry) page = grabbed page entry
+step_of (Read path entry) page = read page (tables_on path) entry
+step_of (Grabbed path entry) page = grabbed page (tables_on path) entry
 step_of (Rechecked entry) page = rechecked page entry
 step_of (Differed frame) page = differed frame
 step_of Refused page = refused

@@ -1,17 +1,18 @@
 //! Where an operation of several turns stands between two of them.
 use gup_base::{Entry, FrameNo, PageNo};
+use gup_tables::Path;
 
 /// Where the lockless walk of a pin stands between two turns.
 #[derive(Clone, Copy, Debug, PartialEq, Eq, Hash)]
 pub enum WalkPlace {
     /// The process has pinned, and the sequence is to be read.
     Entered,
-    /// The entry of the page is to be read, or after the last page the sequence again.
+    /// The path of the page is to be read down to its entry, or after the last page the sequence again.
     Ready,
-    /// The page had this entry; its frame is to be grabbed.
-    Read(Entry),
-    /// The frame is grabbed, and the entry is to be read again.
-    Grabbed(Entry),
+    /// This entry was read down this path; its frame is to be grabbed.
+    Read { path: Path, entry: Entry },
+    /// The frame is grabbed; the word above the path's last table, and the entry, are to be read again.
+    Grabbed { path: Path, entry: Entry },
     /// The entry was the same, and the page is taken; the frame's mark is to be read.
     Rechecked(Entry),
     /// The page had another entry than this frame's, which is to be dropped.
@@ -27,7 +28,7 @@ pub enum WalkPlace {
 /// What an actor is in the middle of between two turns, and how far that is. Forks, moves, and pins that walk or move a page
 /// are alone in the middle of anything that counting pages and words doesn't show.
 ///
-/// It goes through each turn, so it is kept small: fields lie as they are written, the small ones first, and it takes 24
+/// It goes through each turn, so it is kept small: fields lie as they are written, the small ones first, and it takes 32
 /// bytes.
 #[derive(Clone, Copy, Debug, PartialEq, Eq, Hash)]
 pub enum JobPlace {

@@ -1,5 +1,5 @@
 -- The steps of a walk are the turns of its pin.
-use Rattle.std.proofs.Common.{◌≡◌, ℕ, ◌+◌, ◌-◌, ◌<◌, ◌==◌, ◌||◌, nat_lt, Bool, true, false, if◌then◌else◌, List, [], ◌∷◌, ◌++◌, length, slice_get, Option, Some, None, IfSome, is_some, zero, suc, refl, sym, ap, ◌∙◌, subst, arith}
+use Rattle.std.proofs.Common.{◌≡◌, ℕ, ◌+◌, ◌-◌, ◌<◌, ◌==◌, ◌&&◌, ◌||◌, nat_lt, Bool, true, false, if◌then◌else◌, List, [], ◌∷◌, ◌++◌, length, slice_get, Option, Some, None, IfSome, is_some, zero, suc, refl, sym, ap, ◌∙◌, subst, arith}
 use Rattle.std.proofs.lemmas.Bool.Decides.{nat_tests}
 use Rattle.gup_base.specs.declared.entry.Entry.{Entry}
 use Rattle.gup_base.specs.declared.entry.Want.{Want}
@@ -9,16 +9,22 @@ use Rattle.gup_plain.specs.declared.event.PlainEvent.TheVariants as events
 use Rattle.gup_plain.specs.declared.note.What.{What}
 use Rattle.gup_plain.specs.declared.note.What.TheVariants.{Silent, Event}
 use Rattle.gup_frames.specs.Frames.{FramesValue, IsFrame}
+use Rattle.gup_space.specs.Space.{SpaceValue, tables_in}
 use Rattle.gup_space.specs.Shows.{Change, ShowsFrames, ShowsSpace}
-use Rattle.gup_spec_events.specs.State.{CoreState, Taken, WalkStep, entered, ready, read, grabbed, rechecked, differed, refused, stopped, dropping, over}
-use Rattle.gup_spec_events.specs.Event.{CoreEvent, is_odd, happens, run, taken_frames, read_sequence, read_entry, recheck_same, recheck_other, read_mark, read_again, drop_last, drop_first}
-use Rattle.gup_fast.specs.Walks.{WalkValue, Stage, counted_in, left_in, MayReadAgain, at, left, unbegun, at_stage, next_page, ShowsWalk, AreWalkEvents, dropped_at, after_recheck, after_drop, reads_sequence, grabs, rechecks, reads_again, drops, drops_last, drops_first}
+use Rattle.gup_spec_tables.specs.Tables.{TreeValue}
+use Rattle.gup_spec_tables.specs.Paths.{entry_at, leads_still, KeepsPath}
+use Rattle.gup_spec_events.specs.State.{CoreState, Taken, WalkStep, entered, ready, reading, read, grabbed, rechecked, differed, refused, stopped, dropping, over}
+use Rattle.gup_spec_events.specs.Event.{CoreEvent, is_odd, happens, run, taken_frames, tree_in, read_sequence, read_mark, read_again, drop_last, drop_first}
+use Rattle.gup_spec_events.specs.Descent.{reads_down}
+use Rattle.gup_fast.specs.Walks.{WalkValue, Stage, counted_in, left_in, MayReadAgain, at, left, unbegun, at_stage, next_page, is_kept, found_again, ShowsWalk, AreWalkEvents, dropped_at, after_recheck, after_drop, reads_sequence, grabs, rechecks, reads_again, drops, drops_last, drops_first}
 use Rattle.gup_fast.specs.declared.walk.GiveUp.{GiveUp}
 use Rattle.gup_fast.specs.Walks.{leaves_if as leaves_walk, is_same as is_same_entry, is_none_left as no_frame_left, split_last as parts_of, one_before as one_more, last_of}
 use Rattle.gup_fast.proofs.Leaving.{Unwalked, unwalked_of, AreWalking, walkings_leave, sequence_walking, read_walking, grabs_walking, rechecks_walking, mark_walking, again_walking, drops_walking}
 use Rattle.gup_spec_turns.specs.CoreTurn.{CoreTurn}
 use Rattle.gup_spec_turns.specs.WalkTurns.{walk_turn, all_turn, silent_turn, sequence_turn, ready_turn, grab_turn, recheck_turn, again_turn, last_turn, first_turn, leaves_if, is_same, is_none_left, split_last, one_before}
 use Rattle.gup_op_pins.specs.Pins.{EndAt, IsPinnedFrame, IsReadyToWalk}
+use Rattle.gup_law_tables.proofs.ReadDown.{leads_down}
+use Rattle.gup_fast.proofs.ShownPaths.{leads_shown, entry_shown}
 use Rattle.gup_op_pins.specs.Steps.{IsStepTurn, IsStep, IsGrabbed, last_at, step_whats, dropped_event, first_of_left}
 
 -- ---- what stays
@@ -31,8 +37,9 @@ pub ends_kept : (stage : Stage) (last : ℕ) (taken : List Taken) → EndAt (Som
 ends_kept (at dropping) last taken ends = ends
 ends_kept (at entered) last taken ends = tt
 ends_kept (at ready) last taken ends = tt
-ends_kept (at (read g e)) last taken ends = tt
-ends_kept (at (grabbed g e)) last taken ends = tt
+ends_kept (at (reading g path)) last taken ends = tt
+ends_kept (at (read g path e)) last taken ends = tt
+ends_kept (at (grabbed g path e)) last taken ends = tt
 ends_kept (at (rechecked g e)) last taken ends = tt
 ends_kept (at (differed f)) last taken ends = tt
 ends_kept (at refused) last taken ends = tt
@@ -114,40 +121,40 @@ sequence_step k w w' a p last at_it events s handle step is frames space walk en
     (sequence_walking a p now w) (running k w w' a p _ step is (events s a p frames space walk))
     (leaves_taken (is_odd now) a p w.want now (happens s (read_sequence a p w.want.write w.want.long now))) ends
 
--- ---- an entry is read
+-- ---- a page's path is read down to its entry
 
 pub read_step : (k : Change) (w w' : WalkValue) (a p last : ℕ) → w.stage ≡ at ready → length w.taken < w.n
-    → AreWalkEvents k w w' (λ s b q. read_entry b q w.want.write w.want.long w.sequence (next_page w) (k.old_space.entry (next_page w)) ∷ []) → IsStep k w w' a p last (Silent ∷ [])
+    → AreWalkEvents k w w' (λ s b q. reads_down s b q w.want.write w.want.long w.sequence (next_page w)) → IsStep k w w' a p last (Silent ∷ [])
 read_step k w w' a p last at_it more events s handle step is frames space walk ends =
     let many : length (s.taken a) ≡ length w.taken = many_taken (s.taken a) w.taken walk.taken in
     let next : nat_lt (length w.taken) w.n ≡ true = grind (arith, nat_tests) in
     let g : ℕ = next_page w in
     silently k w w' a p last s (walk_turn s a p handle w.page w.n w.want w.sequence step)
-    (read_entry a p w.want.write w.want.long w.sequence g (k.old_space.entry g) ∷ [])
+    (reads_down s a p w.want.write w.want.long w.sequence g)
     (ap (walk_turn s a p handle w.page w.n w.want w.sequence) (same_step w.stage step ready is at_it)
     ∙ ap (λ (m : ℕ). ready_turn s a p handle (w.page + m) w.n w.want w.sequence (nat_lt m w.n)) many
-    ∙ ap (ready_turn s a p handle g w.n w.want w.sequence) next
-    ∙ ap (λ (o : Option Entry). silent_turn (read_entry a p w.want.write w.want.long w.sequence g o ∷ [])) (space.entry g))
-    (read_walking a p w.want.write w.want.long w.sequence g (k.old_space.entry g)) (running k w w' a p _ step is (events s a p frames space walk)) refl ends
+    ∙ ap (ready_turn s a p handle g w.n w.want w.sequence) next)
+    (read_walking s a p w.want.write w.want.long w.sequence g) (running k w w' a p _ step is (events s a p frames space walk))
+    (ap (λ (t : CoreState). t.taken) (leads_down s a p w.sequence g w.want.write w.want.long)) ends
 
 -- ---- a frame is grabbed
 
-grab_same : (count : ℕ) (a p g : ℕ) (e : Entry) (w : WalkValue) → grab_turn a p w.want w.sequence g e count ≡ silent_turn (grabs a p g count e w)
-grab_same zero a p g e w = refl
-grab_same (suc count) a p g e w = refl
+grab_same : (count : ℕ) (a p g : ℕ) (path : List ℕ) (e : Entry) (w : WalkValue) → grab_turn a p w.want w.sequence g path e count ≡ silent_turn (grabs a p g count path e w)
+grab_same zero a p g path e w = refl
+grab_same (suc count) a p g path e w = refl
 
-grab_taken : (count : ℕ) (a p g : ℕ) (e : Entry) (w : WalkValue) (s : CoreState) → (run s (grabs a p g count e w)).taken ≡ s.taken
-grab_taken zero a p g e w s = refl
-grab_taken (suc count) a p g e w s = refl
+grab_taken : (count : ℕ) (a p g : ℕ) (path : List ℕ) (e : Entry) (w : WalkValue) (s : CoreState) → (run s (grabs a p g count path e w)).taken ≡ s.taken
+grab_taken zero a p g path e w s = refl
+grab_taken (suc count) a p g path e w s = refl
 
-pub grab_step : (k : Change) (w w' : WalkValue) (a p last g : ℕ) (e : Entry) → w.stage ≡ at (read g e)
-    → AreWalkEvents k w w' (λ s b q. grabs b q g (k.old_frames.count e.frame) e w) → IsStep k w w' a p last (Silent ∷ [])
-grab_step k w w' a p last g e at_it events s handle step is frames space walk ends =
+pub grab_step : (k : Change) (w w' : WalkValue) (a p last g : ℕ) (path : List ℕ) (e : Entry) → w.stage ≡ at (read g path e)
+    → AreWalkEvents k w w' (λ s b q. grabs b q g (k.old_frames.count e.frame) path e w) → IsStep k w w' a p last (Silent ∷ [])
+grab_step k w w' a p last g path e at_it events s handle step is frames space walk ends =
     let count : ℕ = k.old_frames.count e.frame in
-    silently k w w' a p last s (walk_turn s a p handle w.page w.n w.want w.sequence step) (grabs a p g count e w)
-    (ap (walk_turn s a p handle w.page w.n w.want w.sequence) (same_step w.stage step (read g e) is at_it)
-    ∙ ap (grab_turn a p w.want w.sequence g e) (frames.count e.frame) ∙ grab_same count a p g e w)
-    (grabs_walking a p g count e w) (running k w w' a p _ step is (events s a p frames space walk)) (grab_taken count a p g e w s) ends
+    silently k w w' a p last s (walk_turn s a p handle w.page w.n w.want w.sequence step) (grabs a p g count path e w)
+    (ap (walk_turn s a p handle w.page w.n w.want w.sequence) (same_step w.stage step (read g path e) is at_it)
+    ∙ ap (grab_turn a p w.want w.sequence g path e) (frames.count e.frame) ∙ grab_same count a p g path e w)
+    (grabs_walking a p g count path e w) (running k w w' a p _ step is (events s a p frames space walk)) (grab_taken count a p g path e w s) ends
 
 -- ---- the entry is read again
 
@@ -160,34 +167,35 @@ abbrev recheck_event : (same : Bool) → (a p g : ℕ) → (write : Bool) → Op
 recheck_event true a p g write = Some (events.PinTry a p g write)
 recheck_event false a p g write = None
 
-abbrev recheck_events : (same : Bool) → (a p g : ℕ) → Entry → WalkValue → List CoreEvent
-recheck_events same a p g e w =
-    if same then recheck_same a p w.want.write w.want.long w.sequence g e ∷ []
-    else recheck_other a p w.want.write w.want.long w.sequence g e ∷ []
-
-rechecked_as : (same : Bool) (k : Change) (w w' : WalkValue) (a p last g : ℕ) (e : Entry) (event : Option PlainEvent) (s : CoreState) (turn : CoreTurn)
-    → w' ≡ (if same then record w { taken = w.taken ++ e.frame ∷ []; stage = at (rechecked g e) } else at_stage (at (differed e.frame)) w)
-    → event ≡ recheck_event same a p g w.want.write → AreWalking a p (recheck_events same a p g e w)
-    → ShowsFrames k.new_frames (run s (recheck_events same a p g e w)) × ShowsSpace p (left_in k.new_space w'.stage k.old_space.walks) (run s (recheck_events same a p g e w)) × ShowsWalk a p w' (run s (recheck_events same a p g e w))
-    → EndAt (Some last) (s.taken a) → turn ≡ recheck_turn a p w.want w.sequence g e same → IsStepTurn k w' a p last (step_whats event) s turn
-rechecked_as true k w w' a p last g e event s turn leads tells walking shows ends is =
+rechecked_as : (above same : Bool) (k : Change) (w w' : WalkValue) (a p last g : ℕ) (path : List ℕ) (e : Entry) (event : Option PlainEvent) (s : CoreState) (turn : CoreTurn)
+    → w' ≡ (if above && same then record w { taken = w.taken ++ e.frame ∷ []; stage = at (rechecked g e) } else at_stage (at (differed e.frame)) w)
+    → event ≡ recheck_event (above && same) a p g w.want.write → AreWalking a p (rechecks a p g path e above same w)
+    → ShowsFrames k.new_frames (run s (rechecks a p g path e above same w)) × ShowsSpace p (left_in k.new_space w'.stage k.old_space.walks) (run s (rechecks a p g path e above same w)) × ShowsWalk a p w' (run s (rechecks a p g path e above same w))
+    → EndAt (Some last) (s.taken a) → turn ≡ recheck_turn a p w.want w.sequence g path e above same → IsStepTurn k w' a p last (step_whats event) s turn
+rechecked_as true true k w w' a p last g path e event s turn leads tells walking shows ends is =
     subst (λ (o : Option PlainEvent). IsStepTurn k w' a p last (step_whats o) s turn) (sym tells)
-    (by_events k w w' a p last (Event (events.PinTry a p g w.want.write) ∷ []) s turn (recheck_events true a p g e w) is walking shows
+    (by_events k w w' a p last (Event (events.PinTry a p g w.want.write) ∷ []) s turn (rechecks a p g path e true true w) is walking shows
     (no_end w'.stage last _ (ap (λ (x : WalkValue). last_at x.stage last) leads)))
-rechecked_as false k w w' a p last g e event s turn leads tells walking shows ends is =
+rechecked_as true false k w w' a p last g path e event s turn leads tells walking shows ends is =
     subst (λ (o : Option PlainEvent). IsStepTurn k w' a p last (step_whats o) s turn) (sym tells)
-    (silently k w w' a p last s turn (recheck_events false a p g e w) is walking shows refl ends)
+    (silently k w w' a p last s turn (rechecks a p g path e true false w) is walking shows refl ends)
+rechecked_as false same k w w' a p last g path e event s turn leads tells walking shows ends is =
+    subst (λ (o : Option PlainEvent). IsStepTurn k w' a p last (step_whats o) s turn) (sym tells)
+    (silently k w w' a p last s turn (rechecks a p g path e false same w) is walking shows refl ends)
 
-pub recheck_step : (k : Change) (w w' : WalkValue) (a p last g : ℕ) (e : Entry) (event : Option PlainEvent) → w.stage ≡ at (grabbed g e)
-    → w' ≡ after_recheck g e (k.old_space.entry g) w → event ≡ recheck_event (is_same_entry e (k.old_space.entry g)) a p g w.want.write
-    → AreWalkEvents k w w' (λ s b q. rechecks b q g e (k.old_space.entry g) w) → IsStep k w w' a p last (step_whats event)
-recheck_step k w w' a p last g e event at_it leads tells events s handle step is frames space walk ends =
-    let now : Option Entry = k.old_space.entry g in
-    rechecked_as (is_same_entry e now) k w w' a p last g e event s (walk_turn s a p handle w.page w.n w.want w.sequence step) leads tells
-    (rechecks_walking a p g e now w) (running k w w' a p _ step is (events s a p frames space walk)) ends
-    (ap (walk_turn s a p handle w.page w.n w.want w.sequence) (same_step w.stage step (grabbed g e) is at_it)
-    ∙ ap (λ (o : Option Entry). recheck_turn a p w.want w.sequence g e (is_same e o)) (space.entry g)
-    ∙ ap (recheck_turn a p w.want w.sequence g e) (same_entry e now))
+pub recheck_step : (k : Change) (w w' : WalkValue) (a p last g : ℕ) (path : List ℕ) (e : Entry) (event : Option PlainEvent) → w.stage ≡ at (grabbed g path e)
+    → w' ≡ after_recheck (tables_in k.old_space) g path e w → event ≡ recheck_event (is_kept (tables_in k.old_space) g path e) a p g w.want.write
+    → AreWalkEvents k w w' (λ s b q. rechecks b q g path e (leads_still (tables_in k.old_space) path g) (is_same_entry e (entry_at (tables_in k.old_space) path g)) w) → IsStep k w w' a p last (step_whats event)
+recheck_step k w w' a p last g path e event at_it leads tells events s handle step is frames space walk ends =
+    let v : TreeValue = tables_in k.old_space in
+    let above : Bool = leads_still v path g in
+    let now : Option Entry = entry_at v path g in
+    rechecked_as above (is_same_entry e now) k w w' a p last g path e event s (walk_turn s a p handle w.page w.n w.want w.sequence step) leads tells
+    (rechecks_walking a p g path e above (is_same_entry e now) w) (running k w w' a p _ step is (events s a p frames space walk)) ends
+    (ap (walk_turn s a p handle w.page w.n w.want w.sequence) (same_step w.stage step (grabbed g path e) is at_it)
+    ∙ ap (λ (b : Bool). recheck_turn a p w.want w.sequence g path e b (is_same e (entry_at (tree_in s p) path g))) (leads_shown (tree_in s p) v g space.place path)
+    ∙ ap (λ (o : Option Entry). recheck_turn a p w.want w.sequence g path e above (is_same e o)) (entry_shown (tree_in s p) v g space.place path (space.entry g))
+    ∙ ap (recheck_turn a p w.want w.sequence g path e above) (same_entry e now))
 
 -- ---- the mark is read
 
@@ -323,53 +331,59 @@ drop_step k w w' a p last many f event count some leads tells events s handle st
     (running k w w' a p _ step is (events s a p frames space walk)))
     walk.taken ends)
 
--- ---- what a step needs of frames
+-- ---- what a step needs of frames and the process
 
-pub read_there : (F : FramesValue) (taken : List ℕ) (stage : Stage) (g : ℕ) (e : Entry) → ((step : WalkStep) → stage ≡ at step → IsReadyToWalk F taken step) → stage ≡ at (read g e) → IsFrame F e.frame
-read_there F taken stage g e steps is = steps (read g e) is
+pub read_there : (F : FramesValue) (S : SpaceValue) (taken : List ℕ) (stage : Stage) (g : ℕ) (path : List ℕ) (e : Entry) → ((step : WalkStep) → stage ≡ at step → IsReadyToWalk F S taken step) → stage ≡ at (read g path e) → IsFrame F e.frame
+read_there F S taken stage g path e steps is = steps (read g path e) is
 
-pub rechecked_there : (F : FramesValue) (taken : List ℕ) (stage : Stage) (g : ℕ) (e : Entry) → ((step : WalkStep) → stage ≡ at step → IsReadyToWalk F taken step) → stage ≡ at (rechecked g e) → IsFrame F e.frame
-rechecked_there F taken stage g e steps is = (steps (rechecked g e) is).0
+pub grabbed_there : (F : FramesValue) (S : SpaceValue) (taken : List ℕ) (stage : Stage) (g : ℕ) (path : List ℕ) (e : Entry) → ((step : WalkStep) → stage ≡ at step → IsReadyToWalk F S taken step) → stage ≡ at (grabbed g path e) → KeepsPath (tables_in S) path g
+grabbed_there F S taken stage g path e steps is = steps (grabbed g path e) is
 
-drop_ready : (F : FramesValue) (taken : List ℕ) (step : WalkStep) (f : ℕ) → IsReadyToWalk F taken step → dropped_at (at step) taken ≡ Some f → IsPinnedFrame F f
-drop_ready F taken (read g e) f there some = absurd (cc)
-drop_ready F taken (rechecked g e) f there some = absurd (cc)
-drop_ready F taken entered f there some = absurd (cc)
-drop_ready F taken ready f there some = absurd (cc)
-drop_ready F taken (grabbed g e) f there some = absurd (cc)
-drop_ready F taken stopped f there some = absurd (cc)
-drop_ready F taken over f there some = absurd (cc)
-drop_ready F taken (differed g) f there some = subst (λ (o : Option ℕ). IfSome o (IsPinnedFrame F)) some there
-drop_ready F taken refused f there some = subst (λ (o : Option ℕ). IfSome o (IsPinnedFrame F)) some there
-drop_ready F taken dropping f there some = subst (λ (o : Option ℕ). IfSome o (IsPinnedFrame F)) some there
+pub rechecked_there : (F : FramesValue) (S : SpaceValue) (taken : List ℕ) (stage : Stage) (g : ℕ) (e : Entry) → ((step : WalkStep) → stage ≡ at step → IsReadyToWalk F S taken step) → stage ≡ at (rechecked g e) → IsFrame F e.frame
+rechecked_there F S taken stage g e steps is = (steps (rechecked g e) is).0
+
+drop_ready : (F : FramesValue) (S : SpaceValue) (taken : List ℕ) (step : WalkStep) (f : ℕ) → IsReadyToWalk F S taken step → dropped_at (at step) taken ≡ Some f → IsPinnedFrame F f
+drop_ready F S taken (reading g path) f there some = absurd (cc)
+drop_ready F S taken (read g path e) f there some = absurd (cc)
+drop_ready F S taken (rechecked g e) f there some = absurd (cc)
+drop_ready F S taken entered f there some = absurd (cc)
+drop_ready F S taken ready f there some = absurd (cc)
+drop_ready F S taken (grabbed g path e) f there some = absurd (cc)
+drop_ready F S taken stopped f there some = absurd (cc)
+drop_ready F S taken over f there some = absurd (cc)
+drop_ready F S taken (differed g) f there some = subst (λ (o : Option ℕ). IfSome o (IsPinnedFrame F)) some there
+drop_ready F S taken refused f there some = subst (λ (o : Option ℕ). IfSome o (IsPinnedFrame F)) some there
+drop_ready F S taken dropping f there some = subst (λ (o : Option ℕ). IfSome o (IsPinnedFrame F)) some there
 
 -- the frame that is dropped has the weight of a pin
-pub drop_there : (F : FramesValue) (taken : List ℕ) (stage : Stage) (f : ℕ) → ((step : WalkStep) → stage ≡ at step → IsReadyToWalk F taken step) → dropped_at stage taken ≡ Some f → IsPinnedFrame F f
-drop_there F taken (at step) f steps some = drop_ready F taken step f (steps step refl) some
-drop_there F taken unbegun f steps some = absurd (cc)
-drop_there F taken left f steps some = absurd (cc)
+pub drop_there : (F : FramesValue) (S : SpaceValue) (taken : List ℕ) (stage : Stage) (f : ℕ) → ((step : WalkStep) → stage ≡ at step → IsReadyToWalk F S taken step) → dropped_at stage taken ≡ Some f → IsPinnedFrame F f
+drop_there F S taken (at step) f steps some = drop_ready F S taken step f (steps step refl) some
+drop_there F S taken unbegun f steps some = absurd (cc)
+drop_there F S taken left f steps some = absurd (cc)
 
 pub if_one : (P : ℕ → Type 0) (o : Option ℕ) (f : ℕ) → o ≡ Some f → P f → IfSome o P
 if_one P o f is so = subst (λ (x : Option ℕ). IfSome x P) (sym is) so
 
 -- ---- the entry that was read again
 
-pub grabbed_entry : (stage : Stage) (page : ℕ) → IsGrabbed stage page → (e : Entry) × (stage ≡ at (grabbed page e))
-grabbed_entry (at (grabbed g e)) page is = (e, ap (λ (h : ℕ). at (grabbed h e)) is)
+pub grabbed_entry : (stage : Stage) (page : ℕ) → IsGrabbed stage page → (path : List ℕ) × (e : Entry) × (stage ≡ at (grabbed page path e))
+grabbed_entry (at (grabbed g path e)) page is = (path, e, ap (λ (h : ℕ). at (grabbed h path e)) is)
 grabbed_entry (at step) page is = absurd is
 grabbed_entry unbegun page is = absurd is
 grabbed_entry left page is = absurd is
 
-pub other_tells : (same : Bool) (why : GiveUp) (found : Option GiveUp) (a p g : ℕ) (write : Bool) → found ≡ (if same then None else Some why) → is_some found ≡ true → None ≡ recheck_event same a p g write
-other_tells true why found a p g write is some = absurd (cc)
-other_tells false why found a p g write is some = refl
+pub other_tells : (above same : Bool) (why one : GiveUp) (found : Option GiveUp) (a p g : ℕ) (write : Bool) → found ≡ (if above then if same then None else Some why else Some one) → is_some found ≡ true → None ≡ recheck_event (above && same) a p g write
+other_tells true true why one found a p g write is some = absurd (cc)
+other_tells true false why one found a p g write is some = refl
+other_tells false same why one found a p g write is some = refl
 
-pub same_tells : (same : Bool) (why : GiveUp) (found : Option GiveUp) (a p g : ℕ) (write : Bool) → found ≡ (if same then None else Some why) → is_some found ≡ false → Some (events.PinTry a p g write) ≡ recheck_event same a p g write
-same_tells true why found a p g write is some = refl
-same_tells false why found a p g write is some = absurd (cc)
+pub same_tells : (above same : Bool) (why one : GiveUp) (found : Option GiveUp) (a p g : ℕ) (write : Bool) → found ≡ (if above then if same then None else Some why else Some one) → is_some found ≡ false → Some (events.PinTry a p g write) ≡ recheck_event (above && same) a p g write
+same_tells true true why one found a p g write is some = refl
+same_tells true false why one found a p g write is some = absurd (cc)
+same_tells false same why one found a p g write is some = absurd (cc)
 
-pub recheck_page : (w w' : WalkValue) (g : ℕ) (e : Entry) (now : Option Entry) → w' ≡ after_recheck g e now w → (w'.page ≡ w.page) × (w'.n ≡ w.n)
-recheck_page w w' g e now leads = go (is_same_entry e now) leads
+pub recheck_page : (v : TreeValue) (w w' : WalkValue) (g : ℕ) (path : List ℕ) (e : Entry) → w' ≡ after_recheck v g path e w → (w'.page ≡ w.page) × (w'.n ≡ w.n)
+recheck_page v w w' g path e leads = go (is_kept v g path e) leads
   where
     go : (same : Bool) → w' ≡ (if same then record w { taken = w.taken ++ e.frame ∷ []; stage = at (rechecked g e) } else at_stage (at (differed e.frame)) w) → (w'.page ≡ w.page) × (w'.n ≡ w.n)
     go true is = (ap (λ (x : WalkValue). x.page) is, ap (λ (x : WalkValue). x.n) is)

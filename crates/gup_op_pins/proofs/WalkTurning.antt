@@ -6,7 +6,7 @@ use Rattle.gup_plain.specs.declared.note.What.{What}
 use Rattle.gup_frames.specs.Frames.{FramesValue}
 use Rattle.gup_space.specs.Space.{SpaceValue}
 use Rattle.gup_space.specs.Shows.{ShowsFrames, ShowsSpace}
-use Rattle.gup_spec_events.specs.State.{CoreState, Taken, Job, idle, moving, walking, WalkStep, entered, ready, read, grabbed, rechecked, differed, refused, stopped, dropping, over}
+use Rattle.gup_spec_events.specs.State.{CoreState, Taken, Job, idle, moving, walking, WalkStep, entered, ready, reading, read, grabbed, rechecked, differed, refused, stopped, dropping, over}
 use Rattle.std.proofs.lemmas.Bool.Decides.{nat_tests}
 use Rattle.gup_plain.specs.Put.{put}
 use Rattle.gup_plain.specs.declared.answer.Answer.TheVariants as answers
@@ -55,8 +55,9 @@ ends_here : (step : WalkStep) (p page many last q sequence : ℕ) (want : Want) 
 ends_here dropping p page many last q sequence want write long kept taken is ends pages = subst (λ (o : Option ℕ). EndAt o taken) is ends
 ends_here entered p page many last q sequence want write long kept taken is ends pages = first_pages p page many last want taken pages is
 ends_here ready p page many last q sequence want write long kept taken is ends pages = first_pages p page many last want taken pages is
-ends_here (read g e) p page many last q sequence want write long kept taken is ends pages = first_pages p page many last want taken pages is
-ends_here (grabbed g e) p page many last q sequence want write long kept taken is ends pages = first_pages p page many last want taken pages is
+ends_here (reading g path) p page many last q sequence want write long kept taken is ends pages = first_pages p page many last want taken pages is
+ends_here (read g path e) p page many last q sequence want write long kept taken is ends pages = first_pages p page many last want taken pages is
+ends_here (grabbed g path e) p page many last q sequence want write long kept taken is ends pages = first_pages p page many last want taken pages is
 ends_here (rechecked g e) p page many last q sequence want write long kept taken is ends pages = first_pages p page many last want taken pages is
 ends_here (differed f) p page many last q sequence want write long kept taken is ends pages = first_pages p page many last want taken pages is
 ends_here refused p page many last q sequence want write long kept taken is ends pages = first_pages p page many last want taken pages is
@@ -64,19 +65,20 @@ ends_here stopped p page many last q sequence want write long kept taken is ends
 ends_here over p page many last q sequence want write long kept taken is ends pages = first_pages p page many last want taken pages is
 
 -- the walk that stands there is one
-pub is_walk : (page n sequence : ℕ) (want : Want) (step : WalkStep) (F : FramesValue) (taken : List ℕ) → 1 ≤ n → n ≤ 16 → page + n ≤ 2 ^ 35 → length taken ≤ n → IsAtStep (page + length taken) n (length taken) step → IsReadyToWalk F taken step → IsWalk (walk_at page n want sequence (at step) taken)
-is_walk page n sequence want step F taken some most range few here steps =
+pub is_walk : (page n sequence : ℕ) (want : Want) (step : WalkStep) (F : FramesValue) (S : SpaceValue) (taken : List ℕ) → 1 ≤ n → n ≤ 16 → page + n ≤ 2 ^ 35 → length taken ≤ n → IsAtStep (page + length taken) n (length taken) step → IsReadyToWalk F S taken step → IsWalk (walk_at page n want sequence (at step) taken)
+is_walk page n sequence want step F S taken some most range few here steps =
     record { some = some; most = most; range = range; few = few; fits = fits step here steps }
   where
     none : (frames : List ℕ) → length frames ≡ 0 → frames ≡ []
     none [] is = refl
     none (f ∷ frames) is = absurd (omega (arith, is))
 
-    fits : (there : WalkStep) → IsAtStep (page + length taken) n (length taken) there → IsReadyToWalk F taken there → FitsStage (walk_at page n want sequence (at step) taken) (at there)
+    fits : (there : WalkStep) → IsAtStep (page + length taken) n (length taken) there → IsReadyToWalk F S taken there → FitsStage (walk_at page n want sequence (at step) taken) (at there)
     fits entered here steps = none taken here
     fits ready here steps = tt
-    fits (read g e) here steps = record { here = here.0; more = here.1 }
-    fits (grabbed g e) here steps = record { here = here.0; more = here.1 }
+    fits (reading g path) here steps = absurd here
+    fits (read g path e) here steps = record { here = here.0; more = here.1 }
+    fits (grabbed g path e) here steps = record { here = here.0; more = here.1 }
     fits (rechecked g e) here steps = record { here = here.1; frame = steps.1 }
     fits (differed f) here steps = tt
     fits refused here steps = here
@@ -207,8 +209,8 @@ pub has_end : (place : WalkPlace) (g sequence last page many : ℕ) → HasEnd (
 has_end Dropping g sequence last page many is = is
 has_end Entered g sequence last page many is = is
 has_end Ready g sequence last page many is = is
-has_end (Read e) g sequence last page many is = is
-has_end (Grabbed e) g sequence last page many is = is
+has_end (Read path e) g sequence last page many is = is
+has_end (Grabbed path e) g sequence last page many is = is
 has_end (Rechecked e) g sequence last page many is = is
 has_end (Differed f) g sequence last page many is = is
 has_end Refused g sequence last page many is = is

@@ -10,12 +10,13 @@ use Rattle.gup_plain.specs.declared.event.PlainEvent.TheVariants as events
 use Rattle.gup_plain.specs.declared.note.What.{What}
 use Rattle.gup_plain.specs.declared.note.What.TheVariants.{Event, Done}
 use Rattle.gup_frames.specs.Frames.{FramesValue, FrameLists, frames_of, IsFrame, with_references}
-use Rattle.gup_space.specs.Space.{SpaceValue, SpaceParts, space_of, lacking}
+use Rattle.gup_space.specs.Space.{SpaceValue, SpaceParts, space_of, lacking, tables_in}
+use Rattle.gup_spec_tables.specs.Paths.{KeepsPath}
 use Rattle.gup_space.specs.Found.{found_for}
 use Rattle.gup_space.specs.Shows.{ShowsFrames, ShowsSpace}
 use Rattle.gup_handles.specs.Handles.{HandleValue, HandlesValue, handles_of, unmade, held, given, got, gone}
 use Rattle.gup_handles.specs.Shows.{ShowsHandles}
-use Rattle.gup_spec_events.specs.State.{CoreState, Taken, WalkStep, read, rechecked}
+use Rattle.gup_spec_events.specs.State.{CoreState, Taken, WalkStep, read, grabbed, rechecked}
 use Rattle.gup_spec_events.specs.Event.{bias, taken_frames as frames_taken}
 use Rattle.gup_spec_events.specs.Fault.{Fault, write_fault, unshare_fault}
 use Rattle.gup_spec_events.specs.Invariant.{frame_of}
@@ -122,12 +123,14 @@ pub record IsCleared (frames : FramesValue) (page : ℕ) (want : Want) (e : Entr
 abbrev pub IsPinnedFrame : FramesValue → (frame : ℕ) → Type 0
 IsPinnedFrame frames f = IsFrame frames f × (bias ≤ frames.count f)
 
--- what the next step of a walk, which has taken these frames, finds of frames: that of an entry that was read is there, and
--- one that is to be dropped has the weight of a pin
-abbrev pub IsReadyToWalk : FramesValue → (taken : List ℕ) → WalkStep → Type 0
-IsReadyToWalk frames taken (read g e) = IsFrame frames e.frame
-IsReadyToWalk frames taken (rechecked g e) = IsFrame frames e.frame × (last_of taken ≡ Some e.frame)
-IsReadyToWalk frames taken step = IfSome (dropped_at (at step) taken) (IsPinnedFrame frames)
+-- What the next step of a walk, which has taken these frames, finds of frames and the process: the frame of an entry that was
+-- read is there, and one that is to be dropped has the weight of a pin. The tables of a path that is read again stand where they
+-- stood, or were taken out.
+abbrev pub IsReadyToWalk : FramesValue → SpaceValue → (taken : List ℕ) → WalkStep → Type 0
+IsReadyToWalk frames space taken (read g path e) = IsFrame frames e.frame
+IsReadyToWalk frames space taken (grabbed g path e) = KeepsPath (tables_in space) path g
+IsReadyToWalk frames space taken (rechecked g e) = IsFrame frames e.frame × (last_of taken ≡ Some e.frame)
+IsReadyToWalk frames space taken step = IfSome (dropped_at (at step) taken) (IsPinnedFrame frames)
 
 -- Of a pin of n pages, which has taken these frames, the next one after which is this page. Nobody holds the table lock where a
 -- page is to be made ready; a turn that begins a walk needs none.
@@ -136,7 +139,7 @@ IsReadyToPin frames taken page n want begins unbegun space = begins ≡ false �
 IsReadyToPin frames taken page n want begins (moving_page g e count) space =
     (g ≡ page) × IsCleared frames page want e space
 IsReadyToPin frames taken page n want begins (in_walk sequence step) space =
-    IsAtStep page n (length taken) step × IsReadyToWalk frames taken step
+    IsAtStep page n (length taken) step × IsReadyToWalk frames space taken step
 IsReadyToPin frames taken page n want begins place space = ⊥
 
 -- a pin that walks is counted among the walks of its process

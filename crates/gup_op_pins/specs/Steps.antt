@@ -20,7 +20,7 @@ IsRunning stage = ⊥
 
 -- it has grabbed the frame of this page
 abbrev pub IsGrabbed : Stage → (page : ℕ) → Type 0
-IsGrabbed (at (grabbed g e)) page = g ≡ page
+IsGrabbed (at (grabbed g path e)) page = g ≡ page
 IsGrabbed stage page = ⊥
 
 -- where the operation stands at this stage of its walk

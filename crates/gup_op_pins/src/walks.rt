@@ -1,9 +1,11 @@
 //! A pin's lockless walk: one step a turn.
 ghost use Rattle.std.specs.Prelude.{◌≡◌, ℕ, ◌+◌, ◌==◌, ◌≤◌, ◌<◌, ◌^◌, ◌&&◌, [], List, length, Some, None, true, false};
 ghost use Rattle.gup_frames.specs.Frames.{FrameLists, frames_of};
-ghost use Rattle.gup_space.specs.Space.{space_of};
+ghost use Rattle.gup_base.specs.declared.entry.Entry.{Entry as EntryValue};
+ghost use Rattle.gup_space.specs.Space.{space_of, tables_in};
+ghost use Rattle.gup_spec_tables.specs.Paths.{KeepsPath};
 ghost use Rattle.gup_space.specs.Shows.{change_of};
-ghost use Rattle.gup_spec_events.specs.State.{WalkStep, ready};
+ghost use Rattle.gup_spec_events.specs.State.{WalkStep, ready, grabbed};
 ghost use Rattle.gup_fast.specs.Stages.{stage_of};
 ghost use Rattle.gup_fast.specs.Walks.{at, left_in};
 ghost use Rattle.gup_op_base.specs.Jobs.{place_of, step_of};
@@ -70,7 +72,7 @@ pub(crate) fn walk_turn(
 ) -> (bool, JobPlace)
     requires tidy { IsTidy (frames_of frames.old) (space_of space.old) }
     requires here { IsAtStep (call.page + length taken.old.items) call.n (length taken.old.items) (step_of place page) }
-    requires steps { IsReadyToWalk (frames_of frames.old) taken.old.items (step_of place page) }
+    requires steps { IsReadyToWalk (frames_of frames.old) (space_of space.old) taken.old.items (step_of place page) }
     requires few { (f : ℕ) → (frames_of frames.old).count f < 2 ^ 40 }
     requires unmade { handles_of handles.old call.handle ≡ unmade }
     requires within { length taken.old.items ≤ call.n }
@@ -143,7 +145,7 @@ fn step_turn(
 ) -> JobPlace
     requires tidy { IsTidy (frames_of frames.old) (space_of space.old) }
     requires here { IsAtStep (call.page + got) call.n got (step_of place page) }
-    requires steps { IsReadyToWalk (frames_of frames.old) taken.old.items (step_of place page) }
+    requires steps { IsReadyToWalk (frames_of frames.old) (space_of space.old) taken.old.items (step_of place page) }
     requires few { (f : ℕ) → (frames_of frames.old).count f < 2 ^ 40 }
     requires taken { length taken.old.items ≡ got }
     requires within { got ≤ call.n }
@@ -195,7 +197,7 @@ fn walk_on(
     requires tidy { IsTidy (frames_of frames.old) (space_of space.now) }
     requires few { (f : ℕ) → (frames_of frames.old).count f < 2 ^ 40 }
     requires runs { IsRunning walk.old.stage }
-    requires steps { (step : WalkStep) → walk.old.stage ≡ at step → IsReadyToWalk (frames_of frames.old) walk.old.taken step }
+    requires steps { (step : WalkStep) → walk.old.stage ≡ at step → IsReadyToWalk (frames_of frames.old) (space_of space.now) walk.old.taken step }
     requires some { 1 ≤ walk.old.n }
     requires other { walk.old.stage ≡ at ready → length walk.old.taken ≡ walk.old.n
         → ((space_of space.now).sequence == walk.old.sequence) ≡ false }
@@ -261,7 +263,7 @@ fn take_step(
     requires tidy { IsTidy (frames_of frames.old) (space_of space.now) }
     requires few { (f : ℕ) → (frames_of frames.old).count f < 2 ^ 40 }
     requires runs { IsRunning walk.old.stage }
-    requires steps { (step : WalkStep) → walk.old.stage ≡ at step → IsReadyToWalk (frames_of frames.old) walk.old.taken step }
+    requires steps { (step : WalkStep) → walk.old.stage ≡ at step → IsReadyToWalk (frames_of frames.old) (space_of space.now) walk.old.taken step }
     requires some { 1 ≤ walk.old.n }
     requires other { walk.old.stage ≡ at ready → length walk.old.taken ≡ walk.old.n
         → ((space_of space.now).sequence == walk.old.sequence) ≡ false }
@@ -312,6 +314,8 @@ fn recheck(
     write: bool,
 ) -> Option<PlainEvent>
     requires grabbed { IsGrabbed walk.old.stage page }
+    requires kept { (g : ℕ) (path : List ℕ) (e : EntryValue) → walk.old.stage ≡ at (grabbed g path e)
+        → KeepsPath (tables_in (space_of space.now)) path g }
     requires write { walk.old.want.write ≡ write }
     ensures step { (frames : FrameLists) (last : ℕ) → IsStep (change_of frames frames space.now space.now) walk.old walk.new actor proc last
         (step_whats result) }
@@ -359,8 +363,8 @@ fn stage_at(place: WalkPlace, page: PageNo) -> Stage
     match place {
         WalkPlace::Entered => Stage::Entered,
         WalkPlace::Ready => Stage::Ready,
-        WalkPlace::Read(entry) => Stage::Read { page, entry },
-        WalkPlace::Grabbed(entry) => Stage::Grabbed { page, entry },
+        WalkPlace::Read { path, entry } => Stage::Read { page, path, entry },
+        WalkPlace::Grabbed { path, entry } => Stage::Grabbed { page, path, entry },
         WalkPlace::Rechecked(entry) => Stage::Rechecked { page, entry },
         WalkPlace::Differed(frame) => Stage::Differed(frame),
         WalkPlace::Refused => Stage::Refused,
@@ -377,8 +381,8 @@ fn place_at(stage: Stage, sequence: u64, last: PageNo) -> JobPlace
     let (place, page) = match stage {
         Stage::Entered => (WalkPlace::Entered, last),
         Stage::Ready => (WalkPlace::Ready, last),
-        Stage::Read { page, entry } => (WalkPlace::Read(entry), page),
-        Stage::Grabbed { page, entry } => (WalkPlace::Grabbed(entry), page),
+        Stage::Read { page, path, entry } => (WalkPlace::Read { path, entry }, page),
+        Stage::Grabbed { page, path, entry } => (WalkPlace::Grabbed { path, entry }, page),
         Stage::Rechecked { page, entry } => (WalkPlace::Rechecked(entry), page),
         Stage::Differed(frame) => (WalkPlace::Differed(frame), last),
         Stage::Refused => (WalkPlace::Refused, last),

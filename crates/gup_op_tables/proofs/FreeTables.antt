@@ -16,7 +16,10 @@ use Rattle.gup_plain.specs.declared.answer.Answer.TheVariants as answers
 use Rattle.gup_script.specs.declared.op.Op.{Op}
 use Rattle.gup_script.specs.declared.op.Op.TheVariants.{Map, Unmap, Protect, Discard, Load, Store, Pin, Unpin, Give, Get, Put, Transfer, Fork, Exit, Move, Mirror, Look}
 use Rattle.gup_spec_events.specs.State.{CoreState, Job, forking, ForkStep, between, copying, idle, moving, Counted, unread, one, more, walking, Taken, WalkStep, entered, ready, read, grabbed, refused, stopped, dropping, counted}
-use Rattle.gup_spec_events.specs.Event.{CoreEvent, entry_of, take_frame, put_entry, place_frame, restore_entry, clear_entry, pin_page, make_handle, upgrade, load, store, get_reference, fill_mirror, lower_entry, protect_pages, drop_entry, run, has_tables, is_odd, read_sequence, read_again, fail_fork}
+use Rattle.gup_spec_events.specs.Event.{CoreEvent, entry_of, take_frame, put_entry, place_frame, restore_entry, clear_entry, pin_page, make_handle, upgrade, load, store, get_reference, fill_mirror, lower_entry, protect_pages, drop_entry, run, has_tables, is_odd, read_sequence, read_link, read_again, fail_fork, tree_in}
+use Rattle.gup_spec_tables.specs.Tables.{TreeValue}
+use Rattle.gup_spec_tables.specs.Paths.{link_at, entry_at, leads_still}
+use Rattle.gup_spec_events.specs.Descent.{led_on, reads_on}
 use Rattle.gup_spec_events.specs.Failure.{are_gone, puts_entry, puts_entries}
 use Rattle.gup_spec_events.specs.Fault.{Fault, events_of, fills, fills_writable, breaks, marks, read_fault, unshares, unshare_fault, makes_writable, write_fault, gives_back}
 use Rattle.gup_spec_events.proofs.Runs.{run_behind}
@@ -203,17 +206,28 @@ all_keeps : (a p handle n : ℕ) (want : Want) (sequence now : ℕ) (same : Bool
 all_keeps a p handle n want sequence now true = λ t. refl
 all_keeps a p handle n want sequence now false = λ t. refl
 
+reads_keep : (v : TreeValue) (a p : ℕ) (write long : Bool) (sequence page n : ℕ) (path : List ℕ) → Keeps (reads_on v a p write long sequence page n path)
+reads_keep v a p write long sequence page zero path = λ t. refl
+reads_keep v a p write long sequence page (suc n) path =
+    keeps_both (read_link a p write long sequence page path (link_at v path page) ∷ []) (led_on (λ table. reads_on v a p write long sequence page n (table ∷ path)) (link_at v path page)) (λ t. refl)
+    (go (link_at v path page) (λ table. reads_keep v a p write long sequence page n (table ∷ path)))
+  where
+    go : (o : Option ℕ) → ((table : ℕ) → Keeps (reads_on v a p write long sequence page n (table ∷ path))) → Keeps (led_on (λ table. reads_on v a p write long sequence page n (table ∷ path)) o)
+    go None each = λ t. refl
+    go (Some table) each = each table
+
 ready_keeps : (s : CoreState) (a p handle page n : ℕ) (want : Want) (sequence : ℕ) (more : Bool) → Keeps (ready_turn s a p handle page n want sequence more).events
-ready_keeps s a p handle page n want sequence true = λ t. refl
+ready_keeps s a p handle page n want sequence true = reads_keep (tree_in s p) a p want.write want.long sequence page 3 []
 ready_keeps s a p handle page n want sequence false = all_keeps a p handle n want sequence (s.sequence p) (s.sequence p == sequence)
 
-grab_keeps : (a p : ℕ) (want : Want) (sequence page : ℕ) (e : Entry) (count : ℕ) → Keeps (grab_turn a p want sequence page e count).events
-grab_keeps a p want sequence page e zero = λ t. refl
-grab_keeps a p want sequence page e (suc count) = λ t. refl
+grab_keeps : (a p : ℕ) (want : Want) (sequence page : ℕ) (path : List ℕ) (e : Entry) (count : ℕ) → Keeps (grab_turn a p want sequence page path e count).events
+grab_keeps a p want sequence page path e zero = λ t. refl
+grab_keeps a p want sequence page path e (suc count) = λ t. refl
 
-recheck_keeps : (a p : ℕ) (want : Want) (sequence page : ℕ) (e : Entry) (same : Bool) → Keeps (recheck_turn a p want sequence page e same).events
-recheck_keeps a p want sequence page e true = λ t. refl
-recheck_keeps a p want sequence page e false = λ t. refl
+recheck_keeps : (a p : ℕ) (want : Want) (sequence page : ℕ) (path : List ℕ) (e : Entry) (leads same : Bool) → Keeps (recheck_turn a p want sequence page path e leads same).events
+recheck_keeps a p want sequence page path e true true = λ t. refl
+recheck_keeps a p want sequence page path e true false = λ t. refl
+recheck_keeps a p want sequence page path e false same = λ t. refl
 
 again_keeps : (a p : ℕ) (want : Want) (sequence now : ℕ) (taken : List Taken) → Keeps (again_turn a p want sequence now taken).events
 again_keeps a p want sequence now taken =
@@ -234,8 +248,9 @@ walk_keeps s a p handle page n want sequence entered =
     let now = s.sequence p in
     keeps_both (read_sequence a p want.write want.long now ∷ []) (leaves_if (is_odd now) a p want now) (λ t. refl) (leave_keeps (is_odd now) a p want now)
 walk_keeps s a p handle page n want sequence ready = ready_keeps s a p handle (page + length (s.taken a)) n want sequence (nat_lt (length (s.taken a)) n)
-walk_keeps s a p handle page n want sequence (read g e) = grab_keeps a p want sequence g e (s.count e.frame)
-walk_keeps s a p handle page n want sequence (grabbed g e) = recheck_keeps a p want sequence g e (is_same e (s.entry p g))
+walk_keeps s a p handle page n want sequence (read g path e) = grab_keeps a p want sequence g path e (s.count e.frame)
+walk_keeps s a p handle page n want sequence (grabbed g path e) =
+    recheck_keeps a p want sequence g path e (leads_still (tree_in s p) path g) (is_same e (entry_at (tree_in s p) path g))
 walk_keeps s a p handle page n want sequence refused = last_keeps a p want sequence (split_last (s.taken a))
 walk_keeps s a p handle page n want sequence stopped = again_keeps a p want sequence (s.sequence p) (s.taken a)
 walk_keeps s a p handle page n want sequence dropping = first_keeps a p want sequence (s.taken a)

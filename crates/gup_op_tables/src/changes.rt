@@ -25,6 +25,7 @@ pub fn grow(spaces: &mut [Space], pool: &mut Pool, at: Option<Spot>)
     requires own { IfSome at (λ x. OwnsAt spaces.old x.proc (pool_of pool.old)) }
     ensures many { length spaces.new ≡ length spaces.old }
     ensures grown { EachPair IsGrown spaces.old spaces.new }
+    ensures none { at ≡ None → spaces.new ≡ spaces.old }
     ensures pool { (pool_of pool.new).tables ≡ (pool_of pool.old).tables }
     ensures leads { (s : CoreState) (a : ℕ) → ShowsPool (pool_of pool.old) s → ShowsEach spaces.old s
         → ShowsPool (pool_of pool.new) (run s (grows_at s a (spot_of at))) × ShowsEach spaces.new (run s (grows_at s a (spot_of at))) }

@@ -1,7 +1,8 @@
 //! The page that a turn makes ready, and the one that it takes down.
-ghost use Rattle.std.specs.Prelude.{◌≡◌, ℕ, ◌+◌, ◌==◌, ◌<◌, ◌^◌, ◌&&◌, ◌⊎◌, length, true, is_some, not, Some, IfSome};
+ghost use Rattle.std.specs.Prelude.{◌≡◌, ℕ, ◌+◌, ◌==◌, ◌<◌, ◌^◌, ◌&&◌, ◌⊎◌, length, Bool, true, false, is_some, not, Some, None, IfSome};
 ghost use Rattle.gup_script.specs.Valid.{IsOp};
-ghost use Rattle.gup_script.specs.declared.op.Op.TheVariants.{Fork};
+ghost use Rattle.gup_base.specs.declared.entry.Want.{Want};
+ghost use Rattle.gup_script.specs.declared.op.Op.TheVariants.{Fork, Pin};
 ghost use Rattle.gup_space.specs.Space.{space_of};
 ghost use Rattle.gup_space.specs.Shows.{ShowsSpace};
 ghost use Rattle.gup_spec_events.specs.State.{CoreState};
@@ -41,6 +42,8 @@ pub fn page_to_grow(
         → got ≡ length (s.taken a) → far ≡ far_in (Some op.now) k → HasPage op.now got (place_of place.now)
         → spot_of result ≡ grown_by s a proc k op.now }
     ensures of { IfSome result (λ at. (at.proc ≡ proc) ⊎ (op.now ≡ Fork at.proc)) }
+    ensures walks { (handle page n : ℕ) (want : Want) (fast : Bool) → op.now ≡ Pin handle page n want fast → slow (place_of place.now) ≡ false
+        → result ≡ None }
 {
     match op {
         Op::Load { page, .. } => loaded(space, proc, *page),
@@ -126,6 +129,7 @@ fn pinned(
     ensures spot { (slow (place_of place.now) ≡ true → page + got < 2 ^ 35)
         → spot_of result ≡ unless (not (slow (place_of place.now))) (unless begins (pinned_at proc (page + got) write ((space_of space.now).right (page + got)))) }
     ensures of { IfSome result (λ at. at.proc ≡ proc) }
+    ensures walks { slow (place_of place.now) ≡ false → result ≡ None }
 {
     if begins || !is_slow(place) {
         return None;

@@ -1,8 +1,9 @@
 //! What a turn does to the page tables of a machine's processes, before and after the operation's own turn.
-ghost use Rattle.std.specs.Prelude.{◌≡◌, ℕ, ◌<◌, length, slice_get, Some, None, IfSome, IsSome};
+ghost use Rattle.std.specs.Prelude.{◌≡◌, ℕ, ◌<◌, Bool, false, length, slice_get, Some, None, IfSome, IsSome};
 ghost use Rattle.arrayvec.specs.ArrayVec.{ArrayVec};
 ghost use Rattle.gup_script.specs.Valid.{IsOp};
-ghost use Rattle.gup_script.specs.declared.op.Op.TheVariants.{Fork};
+ghost use Rattle.gup_base.specs.declared.entry.Want.{Want};
+ghost use Rattle.gup_script.specs.declared.op.Op.TheVariants.{Fork, Pin};
 ghost use Rattle.gup_space.specs.Space.{OwnsTables};
 ghost use Rattle.gup_spec_events.specs.State.{CoreState};
 ghost use Rattle.gup_tables.specs.Pool.{pool_of};
@@ -12,7 +13,7 @@ ghost use Rattle.gup_op_base.specs.Tidy.{AreNumbered};
 ghost use Rattle.gup_op_waits.specs.Doers.{HasProcess};
 ghost use Rattle.gup_op_waits.specs.Parts.{EachSpace};
 ghost use Rattle.gup_op_tables.specs.Alike.{IsGrown, EachPair, ShowsEach};
-ghost use Rattle.gup_op_tables.specs.Spots.{spot_of, retired_spot};
+ghost use Rattle.gup_op_tables.specs.Spots.{spot_of, is_slow, retired_spot};
 ghost use Rattle.gup_op_tables.specs.Turns.{AreParted, GrowsFor, ShrinksFor, child_at};
 
 use crate::changes::{grow, release, retire};
@@ -44,6 +45,8 @@ pub fn grow_for(
     ensures rest { AreParted parts.old parts.new }
     ensures many { length parts.new.spaces.items ≡ length parts.old.spaces.items }
     ensures grown { EachPair IsGrown parts.old.spaces.items parts.new.spaces.items }
+    ensures walks { (handle page n : ℕ) (want : Want) (fast : Bool) → op.now ≡ Pin handle page n want fast → is_slow (place_of job.now) ≡ false
+        → parts.new.spaces.items ≡ parts.old.spaces.items }
     ensures pool { (pool_of pool.new).tables ≡ (pool_of pool.old).tables }
     ensures leads { GrowsFor parts.old parts.new (pool_of pool.old) (pool_of pool.new) actor proc far op.now (place_of job.now) }
 {

@@ -1,10 +1,9 @@
 -- What a turn needs stays true where page tables grow before it.
-use Rattle.std.proofs.Common.{◌≡◌, ℕ, ◌+◌, ◌<◌, ◌^◌, ◌==◌, ◌&&◌, not, is_none, Bool, List, length, slice_get, Some, IsSome, refl, sym, ap, ◌∙◌, subst}
+use Rattle.std.proofs.Common.{◌≡◌, ℕ, ◌+◌, ◌<◌, ◌^◌, ◌==◌, ◌&&◌, not, is_none, Bool, true, false, List, length, slice_get, Some, IsSome, refl, sym, ap, ◌∙◌, subst}
 use Rattle.std.proofs.lemmas.Option.{slice_get_within}
-use Rattle.gup_base.specs.declared.entry.Entry.{Entry}
 use Rattle.gup_base.specs.declared.entry.Want.{Want}
 use Rattle.gup_script.specs.declared.op.Op.{Op}
-use Rattle.gup_script.specs.declared.op.Op.TheVariants.{Load, Store}
+use Rattle.gup_script.specs.declared.op.Op.TheVariants.{Load, Store, Pin}
 use Rattle.gup_frames.specs.Frames.{FramesValue, frames_of}
 use Rattle.gup_space.specs.Space.{SpaceValue, SpaceParts, space_of}
 use Rattle.gup_spec_turns.specs.CoreTurn.{allows_store}
@@ -12,10 +11,12 @@ use Rattle.gup_spec_turns.specs.JobPlace.{JobPlace as Place, unbegun, from_page,
 use Rattle.gup_op_base.specs.declared.jobs.JobPlace.{JobPlace}
 use Rattle.gup_op_base.specs.Jobs.{place_of}
 use Rattle.gup_op_base.specs.Tidy.{IsTidy, AreNumbered, needs_table}
+use Rattle.arrayvec.specs.ArrayVec.{ArrayVec}
+use Rattle.gup_op_tables.specs.Spots.{is_slow}
 use Rattle.gup_op_tables.specs.Alike.{IsAlike, IsGrown, EachPair}
 use Rattle.gup_op_fork.specs.Forked.{IsCountedIn, IsCopyOf, IsReadyAt}
 use Rattle.gup_op_move.specs.Moving.{IsReadyToMove}
-use Rattle.gup_op_pins.specs.Pins.{IsCleared, IsReadyToPin, IsCountedWalk}
+use Rattle.gup_op_pins.specs.Pins.{IsReadyToPin, IsCountedWalk}
 use Rattle.gup_op_waits.specs.declared.births.Birth.{Birth}
 use Rattle.gup_op_waits.specs.declared.parts.Parts.{Parts}
 use Rattle.gup_op_waits.specs.Parts.{EachSpace}
@@ -88,25 +89,11 @@ move_grown F page (moving_page g e count) S T grown h =
     (h.0, subst (λ (s : SpaceValue). IsSome (s.right page)) (sym grown.alike) h.1, ap (λ (s : SpaceValue). s.entry page) grown.alike ∙ h.2, h.3, h.4, grown.full page h.5)
 move_grown F page place S T grown h = absurd h
 
-cleared_grown : (F : FramesValue) (page : ℕ) (want : Want) (e : Entry) (S T : SpaceValue) → IsGrown S T → IsCleared F page want e S → IsCleared F page want e T
-cleared_grown F page want e S T grown h =
-    record {
-      long = h.long;
-      pinned = ap (λ (s : SpaceValue). s.has_pinned) grown.alike ∙ h.pinned;
-      mapped = subst (λ (s : SpaceValue). IsSome (s.right page)) (sym grown.alike) h.mapped;
-      absent = ap (λ (s : SpaceValue). s.entry page) grown.alike ∙ h.absent;
-      path = grown.full page h.path;
-      there = h.there;
-      held = h.held;
-      marked = h.marked;
-      may = h.may;
-    }
-
-pin_grown : (F : FramesValue) (taken : List ℕ) (page n : ℕ) (want : Want) (begins : Bool) (place : Place) (S T : SpaceValue) → IsGrown S T → IsReadyToPin F taken page n want begins place S → IsReadyToPin F taken page n want begins place T
-pin_grown F taken page n want begins unbegun S T grown h = λ slow. ap (λ (s : SpaceValue). s.table) grown.alike ∙ h slow
-pin_grown F taken page n want begins (moving_page g e count) S T grown h = (h.0, cleared_grown F page want e S T grown h.1)
-pin_grown F taken page n want begins (in_walk sequence step) S T grown h = h
-pin_grown F taken page n want begins place S T grown h = absurd h
+pin_grown : (F : FramesValue) (taken : List ℕ) (page n : ℕ) (want : Want) (begins : Bool) (place : Place) (S T : SpaceValue) → IsGrown S T → is_slow place ≡ true → IsReadyToPin F taken page n want begins place S → IsReadyToPin F taken page n want begins place T
+pin_grown F taken page n want begins unbegun S T grown is h = λ slow. ap (λ (s : SpaceValue). s.table) grown.alike ∙ h slow
+pin_grown F taken page n want begins (moving_page g e count) S T grown slow h = absurd (cc)
+pin_grown F taken page n want begins (in_walk sequence step) S T grown slow h = absurd (cc)
+pin_grown F taken page n want begins place S T grown slow h = absurd h
 
 walk_grown : (place : Place) (S T : SpaceValue) → IsGrown S T → IsCountedWalk place S → IsCountedWalk place T
 walk_grown (in_walk sequence step) S T grown h = subst (λ (s : SpaceValue). 0 < s.walks) (sym grown.alike) h
@@ -129,8 +116,9 @@ fork_ready_grown F old new births a p child place many pairs h =
     }
 
 -- readiness survives growth of page tables
-pub ready_grown : (old new : Parts) (a p : ℕ) (op : Op) (gone : ℕ) (place : JobPlace) → new ≡ record old { spaces = new.spaces } → length new.spaces.items ≡ length old.spaces.items → EachPair IsGrown old.spaces.items new.spaces.items → IsReady old a p op gone place → IsReady new a p op gone place
-ready_grown old new a p op gone place rest many pairs h =
+pub ready_grown : (old new : Parts) (a p : ℕ) (op : Op) (gone : ℕ) (place : JobPlace) → new ≡ record old { spaces = new.spaces } → length new.spaces.items ≡ length old.spaces.items → EachPair IsGrown old.spaces.items new.spaces.items
+    → ((handle page n : ℕ) (want : Want) (fast : Bool) → op ≡ Pin handle page n want fast → is_slow (place_of place) ≡ false → new.spaces.items ≡ old.spaces.items) → IsReady old a p op gone place → IsReady new a p op gone place
+ready_grown old new a p op gone place rest many pairs stay h =
     subst (λ (parts : Parts). IsReady parts a p op gone place) (sym rest)
     (record {
       there = λ has. subst (λ (n : ℕ). p < n) (sym many) (h.there has);
@@ -150,10 +138,7 @@ ready_grown old new a p op gone place rest many pairs h =
       referred = h.referred;
       yet = h.yet;
       taken = h.taken;
-      pin = λ space pages handle page n want fast is found pages_are.
-          let was = at_old p space found in
-          pin_grown (frames_of old.frames) pages.items (page + length pages.items) n want (fast && gone == 0) (place_of place) (space_of was.0) (space_of space) (pairs p was.0 space was.1 found)
-          (h.pin was.0 pages handle page n want fast is was.1 pages_are);
+      pin = λ space pages handle page n want fast is found pages_are. pin_ready space pages handle page n want fast is found pages_are (is_slow (place_of place)) refl;
       few_walks = each_alike (λ (s : SpaceValue). s.walks < 2 ^ 40) old.spaces.items new.spaces.items (λ was now grown few. subst (λ (s : SpaceValue). s.walks < 2 ^ 40) (sym grown.alike) few) pairs many h.few_walks;
       walk = λ space handle page n want fast is found.
           let was = at_old p space found in
@@ -166,3 +151,13 @@ ready_grown old new a p op gone place rest many pairs h =
     -- what was at the place of a process
     at_old : (q : ℕ) (space : SpaceParts) → slice_get new.spaces.items q ≡ Some space → (was : SpaceParts) × (slice_get old.spaces.items q ≡ Some was)
     at_old q space found = there old.spaces.items q (subst (λ (n : ℕ). q < n) many (slice_get_within new.spaces.items q space found))
+
+    -- a pin takes a page slowly, or nothing grows
+    pin_ready : (space : SpaceParts) (pages : ArrayVec ℕ) (handle page n : ℕ) (want : Want) (fast : Bool) → op ≡ Pin handle page n want fast → slice_get new.spaces.items p ≡ Some space → slice_get old.taken.items a ≡ Some pages
+        → (slow : Bool) → is_slow (place_of place) ≡ slow → IsReadyToPin (frames_of old.frames) pages.items (page + length pages.items) n want (fast && gone == 0) (place_of place) (space_of space)
+    pin_ready space pages handle page n want fast is found pages_are false slow =
+        h.pin space pages handle page n want fast is (ap (λ (xs : List SpaceParts). slice_get xs p) (sym (stay handle page n want fast is slow)) ∙ found) pages_are
+    pin_ready space pages handle page n want fast is found pages_are true slow =
+        let was = at_old p space found in
+        pin_grown (frames_of old.frames) pages.items (page + length pages.items) n want (fast && gone == 0) (place_of place) (space_of was.0) (space_of space) (pairs p was.0 space was.1 found) slow
+        (h.pin was.0 pages handle page n want fast is was.1 pages_are)

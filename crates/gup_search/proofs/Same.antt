@@ -6,9 +6,12 @@ use mathlib.Core.Bool.{beq}
 use Rattle.std.specs.Option.{option_eq}
 use Rattle.gup_image.specs.declared.fact.Fact.{Fact}
 use Rattle.gup_image.specs.declared.fact.Fact.TheVariants as facts
+use Rattle.gup_tables.specs.declared.path.Path.{Path}
+use Rattle.gup_tables.specs.contracts.path.PathPartialEq.TheImpl as path_eq
 use Rattle.gup_op_base.specs.declared.jobs.JobPlace.{JobPlace}
 use Rattle.gup_op_base.specs.declared.jobs.JobPlace.TheVariants as places
 use Rattle.gup_op_base.specs.declared.jobs.WalkPlace.{WalkPlace}
+use Rattle.gup_op_base.specs.declared.jobs.WalkPlace.TheVariants as steps
 use Rattle.gup_op_base.specs.contracts.jobs.WalkPlacePartialEq.TheImpl as walk_eq
 use Rattle.gup_op_base.specs.contracts.jobs.JobPlacePartialEq.TheImpl as place_eq
 use Rattle.gup_op_waits.specs.declared.births.Birth.{Birth}
@@ -48,8 +51,19 @@ lists_same E same (x ∷ xs) (y ∷ ys) h =
 birth_same : (a b : Birth) → birth_eq.eq-value.it a b ≡ true → a ≡ b
 birth_same a b h = search rules
 
+path_same : (a b : Path) → path_eq.eq-value.it a b ≡ true → a ≡ b
+path_same a b h = search rules
+
 walk_same : (a b : WalkPlace) → walk_eq.eq-value.it a b ≡ true → a ≡ b
-walk_same a b h = search rules
+walk_same steps.Entered b h = search rules
+walk_same steps.Ready b h = search rules
+walk_same (steps.Read path entry) b h = search (rules, path_same)
+walk_same (steps.Grabbed path entry) b h = search (rules, path_same)
+walk_same (steps.Rechecked entry) b h = search rules
+walk_same (steps.Differed frame) b h = search rules
+walk_same steps.Refused b h = search rules
+walk_same steps.Stopped b h = search rules
+walk_same steps.Dropping b h = search rules
 
 place_same : (a b : JobPlace) → place_eq.eq-value.it a b ≡ true → a ≡ b
 place_same places.Unbegun b h = search rules

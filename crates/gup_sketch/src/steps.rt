@@ -77,11 +77,11 @@ fn push_walk(
     };
     match place {
         WalkPlace::Ready => push_ready(was, sequence, text),
-        WalkPlace::Read(entry) => {
+        WalkPlace::Read { entry, .. } => {
             push_page("reads the entry of page ", page, ": ", text)?;
             push_frame("frame ", entry.frame.get(), "", text)
         }
-        WalkPlace::Grabbed(entry) => push_frame("grabs frame ", entry.frame.get(), "", text),
+        WalkPlace::Grabbed { entry, .. } => push_frame("grabs frame ", entry.frame.get(), "", text),
         WalkPlace::Differed(_) => push_text(text, "reads the entry again: not the same"),
         WalkPlace::Refused => push_text(text, "the frame isn't exclusive"),
         WalkPlace::Stopped => push_stop(was, text),
@@ -104,7 +104,7 @@ fn push_ready(was: &WalkPlace, sequence: u64, text: &mut Vec<u8>) -> Result<(), 
 // The step behind which the walk has stopped.
 fn push_stop(was: &WalkPlace, text: &mut Vec<u8>) -> Result<(), NoMemory> {
     match was {
-        WalkPlace::Read(entry) => {
+        WalkPlace::Read { entry, .. } => {
             push_frame("frame ", entry.frame.get(), " is free: grabs nothing", text)
         }
         WalkPlace::Differed(frame) => push_frame("drops frame ", frame.get(), "", text),

@@ -1,6 +1,8 @@
-ghost use Rattle.std.specs.Prelude.{ℕ, ◌<◌, ◌^◌, IfSome};
+ghost use Rattle.std.specs.Prelude.{◌≡◌, ℕ, ◌<◌, ◌^◌, true, IfSome};
 ghost use Rattle.gup_frames.specs.Frames.{frames_of, IsFrame};
-ghost use Rattle.gup_space.specs.Space.{space_of};
+ghost use Rattle.gup_space.specs.Space.{space_of, tables_in};
+ghost use Rattle.gup_spec_tables.specs.Paths.{KeepsPath};
+ghost use Rattle.gup_tables.specs.Path.{tables_on};
 
 use crate::frames::has;
 use crate::tables::with_tables;
@@ -9,6 +11,7 @@ use gup_base::{Allowed, Entry, FrameNo, PageNo, Rights, Want};
 use gup_fast::{GiveUp, Step, Walk};
 use gup_frames::Frames;
 use gup_space::Space;
+use gup_tables::Path;
 use std::alloc::Global;
 use std::process::Abort;
 use std::test::Fail;
@@ -95,6 +98,23 @@ fn expect_there(rt: &impl Abort, space: &Space, frames: &Frames, page: PageNo)
         return;
     };
     assert!(rt; has(frames, entry.frame));
+}
+
+// Whether the path is the page's now: then each table of it stands in the tree.
+fn is_path(space: &Space, page: PageNo, path: &Path) -> bool
+    ensures { result ≡ true → KeepsPath (tables_in (space_of space.now)) (tables_on path.now) page }
+{
+    let Some(now) = space.path(page) else {
+        return false;
+    };
+    now == *path
+}
+
+// No table of the path has left the tree.
+fn expect_path(rt: &impl Abort, space: &Space, page: PageNo, path: &Path)
+    ensures { KeepsPath (tables_in (space_of space.now)) (tables_on path.now) page }
+{
+    assert!(rt; is_path(space, page, path));
 }
 
 // No frame has 2^40 references.
@@ -199,7 +219,10 @@ impl Walked {
                 expect_few(rt, &pages.frames);
                 self.walk.grab(&mut pages.frames)
             }
-            Step::Recheck { .. } => self.walk.recheck(&pages.space),
+            Step::Recheck { page, path, .. } => {
+                expect_path(rt, &pages.space, page, &path);
+                self.walk.recheck(&pages.space)
+            }
             Step::Mark { entry, .. } => {
                 assert!(rt; has(&pages.frames, entry.frame));
                 self.walk.mark(&pages.frames)

@@ -248,7 +248,7 @@ impl View {
     // What a lockless walk has a reference of, and hasn't taken.
     fn add_walk(&mut self, actor: ActorNo, place: &WalkPlace) -> Result<(), NoMemory> {
         match place {
-            WalkPlace::Grabbed(entry) => self.hold(entry.frame, Holder::Grabbed(actor)),
+            WalkPlace::Grabbed { entry, .. } => self.hold(entry.frame, Holder::Grabbed(actor)),
             WalkPlace::Differed(frame) => self.hold(*frame, Holder::Grabbed(actor)),
             _ => Ok(()),
         }

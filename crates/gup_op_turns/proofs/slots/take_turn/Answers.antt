@@ -105,7 +105,7 @@ take_own-over-requires c =
       child = λ child is. subst (λ (x : Parts). child < length x.births.items) (sym rest) (c.requires.child child is).0;
       unfailed = λ has. absurd (cc (c.has_failed.ensures.other (subst (λ (x : Parts). HasFailed x.births.items a.proc) rest has)));
       ready = λ p is.
-          ready_grown old new a.head.now.actor p a.op.now a.far a.job.now rest c.grow_for.ensures.many c.grow_for.ensures.grown
+          ready_grown old new a.head.now.actor p a.op.now a.far a.job.now rest c.grow_for.ensures.many c.grow_for.ensures.grown c.grow_for.ensures.walks
           (c.requires.ready p (λ has. absurd (cc (c.has_failed.ensures.other has))) is);
       there = λ m filled is. subst (λ (x : Parts). IsFrame (frames_of x.frames) filled.frame) (sym rest) (c.requires.there m filled is);
       room = c.requires.room;
