@@ -1,15 +1,5 @@
-//! Tests of faults, forks, unmaps, slow pins and the page tables of a process, and of the machine that takes turns.
+//! Tests of the machine that takes turns.
 #![tactic(auto)]
 
 #[cfg(test)]
-mod faults;
-#[cfg(test)]
-mod forks;
-#[cfg(test)]
 mod machine;
-#[cfg(test)]
-mod slow_pins;
-#[cfg(test)]
-mod tables;
-#[cfg(test)]
-mod unmaps;

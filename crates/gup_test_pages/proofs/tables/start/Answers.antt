@@ -1,7 +1,7 @@
 use Rattle.std.proofs.Common.{sym, ap, subst}
 use Rattle.gup_tables.specs.Pool.{PoolValue, pool_of}
 use Rattle.gup_space.specs.Space.{SpaceValue, no_space, OwnsTables}
-use Rattle.gup_test_machine.proofs.tables.start.Goals as goal
+use Rattle.gup_test_pages.proofs.tables.start.Goals as goal
 
 none_owned : (pool : PoolValue) → OwnsTables no_space pool
 none_owned pool table has = absurd cc

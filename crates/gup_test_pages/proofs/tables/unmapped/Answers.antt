@@ -1,7 +1,7 @@
 use Rattle.std.proofs.Common.{sym, subst}
 use Rattle.gup_tables.specs.Pool.{pool_of}
 use Rattle.gup_space.specs.Space.{SpaceValue, OwnsTables}
-use Rattle.gup_test_machine.proofs.tables.unmapped.Goals as goal
+use Rattle.gup_test_pages.proofs.tables.unmapped.Goals as goal
 
 pub retire-requires : goal.retire-requires
 retire-requires g c =

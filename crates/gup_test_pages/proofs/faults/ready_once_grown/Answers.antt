@@ -1,7 +1,7 @@
 use Rattle.std.proofs.Common.{sym, subst}
 use Rattle.gup_tables.specs.Pool.{pool_of}
 use Rattle.gup_space.specs.Space.{SpaceValue, OwnsTables}
-use Rattle.gup_test_machine.proofs.faults.ready_once_grown.Goals as goal
+use Rattle.gup_test_pages.proofs.faults.ready_once_grown.Goals as goal
 
 pub grown-requires : goal.grown-requires
 grown-requires g c =

@@ -3,7 +3,7 @@ use Rattle.gup_base.specs.declared.entry.Rights.{Rights}
 use Rattle.gup_maps.specs.declared.maps.MapRefusal.{MapRefusal}
 use Rattle.gup_tables.specs.Pool.{PoolValue}
 use Rattle.gup_space.specs.Space.{SpaceValue, space_of, with_pages, OwnsTables}
-use Rattle.gup_test_machine.proofs.tables.map_page.Goals as goal
+use Rattle.gup_test_pages.proofs.tables.map_page.Goals as goal
 
 kept : (result : Result (Unit {0}) MapRefusal) (old new : SpaceValue) (page n : ℕ) (rights : Rights)
     → OnOk result (new ≡ with_pages page n rights old) → OnErr result (new ≡ old)

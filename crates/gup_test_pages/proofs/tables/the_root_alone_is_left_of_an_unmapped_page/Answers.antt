@@ -1,5 +1,5 @@
 use Rattle.gup_tables.specs.Pool.{pool_of}
-use Rattle.gup_test_machine.proofs.tables.the_root_alone_is_left_of_an_unmapped_page.Goals as goal
+use Rattle.gup_test_pages.proofs.tables.the_root_alone_is_left_of_an_unmapped_page.Goals as goal
 
 pub grown-requires : goal.grown-requires
 grown-requires g c = c.map_page.ensures (pool_of c.loop-page.pool) c.loop-page.invariant

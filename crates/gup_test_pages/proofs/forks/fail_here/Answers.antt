@@ -2,7 +2,7 @@ use Rattle.std.proofs.Common.{sym}
 use Rattle.gup_frames.specs.Frames.{frames_of}
 use Rattle.gup_space.specs.Space.{space_of}
 use Rattle.gup_fork.proofs.OneEntry.{is_counted, is_mapped}
-use Rattle.gup_test_machine.proofs.forks.fail_here.Goals as goal
+use Rattle.gup_test_pages.proofs.forks.fail_here.Goals as goal
 
 pub fail-requires-clause-counted : goal.fail-requires-clause-counted
 fail-requires-clause-counted g c =

@@ -1,5 +1,5 @@
 use Rattle.gup_tables.specs.Pool.{pool_of}
-use Rattle.gup_test_machine.proofs.tables.a_page_s_path_ends_with_its_entry.Goals as goal
+use Rattle.gup_test_pages.proofs.tables.a_page_s_path_ends_with_its_entry.Goals as goal
 
 pub grown-requires : goal.grown-requires
 grown-requires g c = c.map_page.ensures (pool_of c.loop-number.pool) c.loop-number.invariant
