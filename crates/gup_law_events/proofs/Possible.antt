@@ -16,8 +16,8 @@ use Rattle.gup_spec_events.specs.State.{CoreState, core_start}
 use Rattle.gup_spec_events.specs.Invariant.{AllCan}
 use Rattle.gup_spec_events.proofs.Runs.{can_behind}
 use Rattle.gup_law_tables.proofs.TableRuns.{first_stand}
-use Rattle.gup_law_tables.proofs.FourTables.{with_tables, bare_lacks, same_lacks, tables_there, lowest_detachable}
-use Rattle.gup_law_events.proofs.FullPaths.{HasPath, path_can, ReadsDown, reads}
+use Rattle.gup_law_tables.proofs.FourTables.{with_tables, bare_lacks, same_lacks, tables_there, HasFour, four_can, lowest_detachable}
+use Rattle.gup_law_events.proofs.FullPaths.{ReadsDown, reads}
 use Rattle.gup_law_events.specs.Possible.{first_born, maps_one, adds_four, pins_one, shares_one, fails_one, one_run}
 
 few_pages : 7 + 1 ≤ page_numbers
@@ -74,10 +74,10 @@ maps_can : AllCan start maps_one
 maps_can = ((refl, (refl, refl), few_pages, (λ k inside. refl), omega arith), tt)
 
 -- the parts, whatever tables there are after process 0 has got four, then its child, and then that one's
-pins_by : (place : ℕ → ℕ → Option Place) (free : ℕ → Bool) → HasPath mapped place free 0 7 0 → ReadsDown (place 0) 7 0 → AllCan (with_tables mapped place free) pins_one
+pins_by : (place : ℕ → ℕ → Option Place) (free : ℕ → Bool) → HasFour mapped place free 0 7 0 → ReadsDown (place 0) 7 0 → AllCan (with_tables mapped place free) pins_one
 pins_by place free four down =
     (tt, refl, omega arith, refl)
-    and_then (refl, (refl, refl), refl, refl, refl, refl, tables_there (with_tables mapped place free) 0 7 refl four.four.full)
+    and_then (refl, (refl, refl), refl, refl, refl, refl, tables_there (with_tables mapped place free) 0 7 refl four.full)
     and_then (refl, (refl, refl), refl, refl, refl)
     and_then (refl, refl, omega arith)
     and_then (refl, (true, refl), omega arith, refl)
@@ -159,12 +159,12 @@ pins_by place free four down =
     and_then refl
     and_then tt
 
-pins_can : (place : ℕ → ℕ → Option Place) (free : ℕ → Bool) → HasPath mapped place free 0 7 0 → AllCan (with_tables mapped place free) pins_one
+pins_can : (place : ℕ → ℕ → Option Place) (free : ℕ → Bool) → HasFour mapped place free 0 7 0 → AllCan (with_tables mapped place free) pins_one
 pins_can place free four = pins_by place free four (reads mapped place free 0 7 0 four)
 
-shares_can : (place1 place2 : ℕ → ℕ → Option Place) (free1 free2 : ℕ → Bool) → HasPath (pinned place1 free1) place2 free2 1 7 4 → AllCan (with_tables (pinned place1 free1) place2 free2) shares_one
+shares_can : (place1 place2 : ℕ → ℕ → Option Place) (free1 free2 : ℕ → Bool) → HasFour (pinned place1 free1) place2 free2 1 7 4 → AllCan (with_tables (pinned place1 free1) place2 free2) shares_one
 shares_can place1 place2 free1 free2 four =
-    (refl, refl, tables_there (with_tables (pinned place1 free1) place2 free2) 1 7 refl four.four.full)
+    (refl, refl, tables_there (with_tables (pinned place1 free1) place2 free2) 1 7 refl four.full)
     and_then (refl, all_done)
     and_then (tt, refl, omega arith, refl)
     and_then (refl, (refl, refl), refl, refl, refl, refl, refl, (λ is. refl), (λ m noted is at proc page. emptied m is))
@@ -192,7 +192,7 @@ shares_can place1 place2 free1 free2 four =
     and_then (refl, tt, refl, λ page. refl)
     and_then (refl, refl)
     and_then (tt, refl, omega arith, refl)
-    and_then (refl, (refl, refl), refl, refl, refl, refl, tables_there (with_tables (pinned place1 free1) place2 free2) 1 7 refl four.four.full)
+    and_then (refl, (refl, refl), refl, refl, refl, refl, tables_there (with_tables (pinned place1 free1) place2 free2) 1 7 refl four.full)
     and_then (refl, refl, (refl, refl), (refl, refl), refl, refl)
     and_then (refl, refl, refl, no_element 7, refl, refl)
     and_then (refl, refl, λ m noted is at proc page. emptied m is)
@@ -201,9 +201,9 @@ shares_can place1 place2 free1 free2 four =
 
 -- what is known when all three have got theirs
 record HaveTables (place1 place2 place3 : ℕ → ℕ → Option Place) (free1 free2 free3 : ℕ → Bool) : Type 0 where
-  first : HasPath mapped place1 free1 0 7 0
-  child : HasPath (pinned place1 free1) place2 free2 1 7 4
-  last : HasPath (shared place1 place2 free1 free2) place3 free3 4 7 8
+  first : HasFour mapped place1 free1 0 7 0
+  child : HasFour (pinned place1 free1) place2 free2 1 7 4
+  last : HasFour (shared place1 place2 free1 free2) place3 free3 4 7 8
 
 module _ (place1 place2 place3 : ℕ → ℕ → Option Place) (free1 free2 free3 : ℕ → Bool) (have : HaveTables place1 place2 place3 free1 free2 free3) where
   abbrev state : CoreState
@@ -211,19 +211,19 @@ module _ (place1 place2 place3 : ℕ → ℕ → Option Place) (free1 free2 free
 
   -- process 0 has the tables that it had first, and no entry
   kept : place3 0 ≡ place1 0
-  kept = have.last.four.others 0 (λ same. omega (arith, same)) ∙ have.child.four.others 0 (λ same. omega (arith, same))
+  kept = have.last.others 0 (λ same. omega (arith, same)) ∙ have.child.others 0 (λ same. omega (arith, same))
 
   bare : (page : ℕ) → state.entry 0 page ≡ None
   bare page = grind (arith, nat_tests)
 
   lowest_out : detachable (tree_in state 0) 7 ≡ Some 3
   lowest_out =
-      lowest_detachable (tree_in state 0) 7 3 (have.last.four.standing.trees 0) (same_lacks (with_tables mapped place1 free1) state 0 7 kept ∙ have.first.four.full)
-      (ap (λ (tables : ℕ → Option Place). tables 3) kept ∙ have.first.four.lowest) bare
+      lowest_detachable (tree_in state 0) 7 3 (have.last.standing.trees 0) (same_lacks (with_tables mapped place1 free1) state 0 7 kept ∙ have.first.full)
+      (ap (λ (tables : ℕ → Option Place). tables 3) kept ∙ have.first.lowest) bare
 
   fails_can : AllCan state fails_one
   fails_can =
-      (refl, refl, tables_there state 4 7 refl have.last.four.full)
+      (refl, refl, tables_there state 4 7 refl have.last.full)
       and_then (refl, tt, refl, (7, refl))
       and_then (refl, refl, given_back)
       and_then (refl, (refl, refl), (refl, refl), refl, refl, refl)
@@ -243,7 +243,7 @@ module _ (place1 place2 place3 : ℕ → ℕ → Option Place) (free1 free2 free
 pub they_can_happen : AllCan start one_run
 they_can_happen =
     can_behind start maps_one (adds_four 0 0 0 ++ (pins_one ++ (adds_four 0 1 4 ++ (shares_one ++ (adds_four 1 4 8 ++ fails_one))))) maps_can
-    (path_can 0 0 7 few_pages mapped 0 (pins_one ++ (adds_four 0 1 4 ++ (shares_one ++ (adds_four 1 4 8 ++ fails_one))))
+    (four_can 0 0 7 few_pages mapped 0 (pins_one ++ (adds_four 0 1 4 ++ (shares_one ++ (adds_four 1 4 8 ++ fails_one))))
     (first_stand 2 8 12 true first_born few_tables)
     (inl (refl, (refl, refl)))
     refl
@@ -251,13 +251,13 @@ they_can_happen =
     (λ k less. free_first (0 + k) (omega (arith, less)))
     (λ place1 free1 four1.
     can_behind (with_tables mapped place1 free1) pins_one (adds_four 0 1 4 ++ (shares_one ++ (adds_four 1 4 8 ++ fails_one))) (pins_can place1 free1 four1)
-    (path_can 0 1 7 few_pages (pinned place1 free1) 4 (shares_one ++ (adds_four 1 4 8 ++ fails_one)) four1.four.standing (inr (inr refl)) refl
-    (bare_lacks (pinned place1 free1) 1 7 (λ table. ap (λ (tables : ℕ → Option Place). tables table) (four1.four.others 1 (λ same. omega (arith, same)))))
-    (λ k less. four1.four.others_free (4 + k) (omega arith) ∙ free_first (4 + k) (omega (arith, less)))
+    (four_can 0 1 7 few_pages (pinned place1 free1) 4 (shares_one ++ (adds_four 1 4 8 ++ fails_one)) four1.standing (inr (inr refl)) refl
+    (bare_lacks (pinned place1 free1) 1 7 (λ table. ap (λ (tables : ℕ → Option Place). tables table) (four1.others 1 (λ same. omega (arith, same)))))
+    (λ k less. four1.others_free (4 + k) (omega arith) ∙ free_first (4 + k) (omega (arith, less)))
     (λ place2 free2 four2.
     can_behind (with_tables (pinned place1 free1) place2 free2) shares_one (adds_four 1 4 8 ++ fails_one) (shares_can place1 place2 free1 free2 four2)
-    (path_can 1 4 7 few_pages (shared place1 place2 free1 free2) 8 fails_one four2.four.standing (inr (inr refl)) refl
+    (four_can 1 4 7 few_pages (shared place1 place2 free1 free2) 8 fails_one four2.standing (inr (inr refl)) refl
     (bare_lacks (shared place1 place2 free1 free2) 4 7
-    (λ table. ap (λ (tables : ℕ → Option Place). tables table) (four2.four.others 4 (λ same. omega (arith, same)) ∙ four1.four.others 4 (λ same. omega (arith, same)))))
-    (λ k less. four2.four.others_free (8 + k) (omega arith) ∙ four1.four.others_free (8 + k) (omega arith) ∙ free_first (8 + k) (omega (arith, less)))
+    (λ table. ap (λ (tables : ℕ → Option Place). tables table) (four2.others 4 (λ same. omega (arith, same)) ∙ four1.others 4 (λ same. omega (arith, same)))))
+    (λ k less. four2.others_free (8 + k) (omega arith) ∙ four1.others_free (8 + k) (omega arith) ∙ free_first (8 + k) (omega (arith, less)))
     (λ place3 free3 four3. fails_can place1 place2 place3 free1 free2 free3 (record { first = four1; child = four2; last = four3 })))))))

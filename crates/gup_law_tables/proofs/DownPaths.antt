@@ -1,5 +1,5 @@
 -- Down a page's path words lead from table to table as far as there are any, and the entry that is read at the end is the page's.
-use Rattle.std.proofs.Common.{◌≡◌, ℕ, ◌+◌, ◌-◌, ◌<◌, ◌==◌, ◌&&◌, nat_lt, Bool, true, false, if◌then◌else◌, is_some, List, [], ◌∷◌, length, Option, Some, None, IsSome, refl, ap, sym, ◌∙◌, arith}
+use Rattle.std.proofs.Common.{◌≡◌, ℕ, ◌+◌, ◌<◌, ◌&&◌, Bool, true, false, if◌then◌else◌, is_some, [], Option, Some, None, IsSome, refl, ap, sym, ◌∙◌, arith}
 use Rattle.gup_base.specs.declared.entry.Entry.{Entry}
 use Rattle.gup_spec_tables.specs.Tables.{TreeValue, table_at, on_path, is_at, missing, lacks}
 use Rattle.gup_spec_tables.specs.Paths.{and_table, path_to}

@@ -40,13 +40,16 @@ record HasOne (s : CoreState) (place : ℕ → ℕ → Option Place) (free : ℕ
   standing : AreOwned free place s.retired
   lacking : lacks (tree_in (with_tables s place free) p) page ≡ n
   there : place p table ≡ Some (on_path (suc n) page)
+  kept : (other : ℕ) → other ≢ table → place p other ≡ s.place p other
   others : (q : ℕ) → q ≢ p → place q ≡ s.place q
   others_free : (other : ℕ) → other ≢ table → free other ≡ s.free_table other
 
--- and where it has got all four, with numbers from this one on
+-- and where it has got all four, with numbers from this one on: the three below the root are its path
 pub record HasFour (s : CoreState) (place : ℕ → ℕ → Option Place) (free : ℕ → Bool) (p page first : ℕ) : Type 0 where
   pub standing : AreOwned free place s.retired
   pub full : lacks (tree_in (with_tables s place free) p) page ≡ 0
+  pub third : place p (first + 1) ≡ Some (on_path 3 page)
+  pub second : place p (first + 2) ≡ Some (on_path 2 page)
   pub lowest : place p (first + 3) ≡ Some (on_path 1 page)
   pub others : (q : ℕ) → q ≢ p → place q ≡ s.place q
   pub others_free : (other : ℕ) → first + 4 ≤ other → free other ≡ s.free_table other
@@ -69,6 +72,7 @@ module _ (a p page : ℕ) (within : page < page_numbers) where
               standing = stay s (add_table a p page table) stand (may, mapped, within, free, some);
               lacking = omega (arith, fewer, lacking);
               there = own ∙ ap (λ k. Some (on_path k page)) lacking;
+              kept = λ other away. rw (here2 p table at s.place) (put_other table at (s.place p) other away);
               others = λ q away. away2 p table at s.place q away;
               others_free = λ other away. put_other table false s.free_table other away;
             }),
@@ -94,6 +98,8 @@ module _ (a p page : ℕ) (within : page < page_numbers) where
       (record {
         standing = h4.standing;
         full = h4.lacking;
+        third = h4.kept (first + 1) (omega arith) ∙ h3.kept (first + 1) (omega arith) ∙ h2.there;
+        second = h4.kept (first + 2) (omega arith) ∙ h3.there;
         lowest = h4.there;
         others = λ q away. h4.others q away ∙ h3.others q away ∙ h2.others q away ∙ h1.others q away;
         others_free = λ other above. h4.others_free other (omega arith) ∙ h3.others_free other (omega arith) ∙ h2.others_free other (omega arith) ∙ h1.others_free other (omega arith);

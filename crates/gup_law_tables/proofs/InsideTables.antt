@@ -8,14 +8,14 @@ use Rattle.gup_plain.specs.Put.{put, put2}
 use Rattle.gup_spec_tables.specs.declared.place.Place.{Place}
 use Rattle.gup_spec_tables.specs.Tables.{TreeValue, on_path, table_at, lacks, detachable, is_among}
 use Rattle.gup_spec_tables.specs.Paths.{link_at, is_there, KeepsPath}
-use Rattle.gup_spec_events.specs.State.{CoreState, Job, Taken, WalkStep, idle, marking, moving, forking, walking, unread, between, counted, lowered, cleared, copying, failing, entered, ready, reading, read, grabbed, rechecked, differed, refused, stopped, dropping, over, core_start}
+use Rattle.gup_spec_events.specs.State.{CoreState, Job, Taken, WalkStep, idle, marking, moving, forking, walking, unread, between, counted, lowered, cleared, copying, failing, entered, ready, reading, read, grabbed, rechecked, differed, refused, stopped, over, core_start}
 use Rattle.gup_spec_events.specs.Event.{CoreEvent, Can, happens, tree_in, is_wrong, counted_as, is_odd, step_at, step_read, step_led, step_left, take_frame, fill, count_one, set_mark, upgrade, break_entry, put_entry, raise_flag, pin_page, make_handle, unpin_page, give_handle, take_handle, get_reference, put_reference, clear_entry, count_moved, place_frame, restore_entry, begin_fork, count_page, share_entry, share_mark, share_child, copy_word, place_child, pass_page, end_fork, fail_fork, put_child, fail_unborn, map_pages, lower_entry, protect_pages, drop_entry, discard_entry, add_table, take_out, reclaim, load, store, move_out, move_in, empty_mirror, fill_mirror, look, enter_walk, read_sequence, read_link, read_entry, grab_frame, miss_frame, recheck_above, recheck_same, recheck_other, read_mark, read_again, drop_grab, drop_last, drop_first, leave_walk}
 use Rattle.gup_spec_events.specs.Invariant.{walked_process}
-use Rattle.gup_law_base.specs.Sound.{View, IsSound, IsSoundBy, walking_of, walk_process}
+use Rattle.gup_law_base.specs.Sound.{IsSound, walking_of, walk_process}
 use Rattle.gup_law_base.proofs.Holders.{no_element}
 use Rattle.gup_tables.proofs.Places.{at_some, put_same, put_other}
-use Rattle.gup_law_tables.specs.Standing.{TablesStand, has, has_table}
-use Rattle.gup_law_tables.specs.Inside.{step_path, path_page, IsInside, WalksStand}
+use Rattle.gup_law_tables.specs.Standing.{TablesStand, has}
+use Rattle.gup_law_tables.specs.Inside.{step_path, path_page, WalksStand}
 use Rattle.gup_law_tables.proofs.Owners.{either, left_true, right_true, here2, away2, grown_keeps, same_had}
 
 -- ---- one path

@@ -1,5 +1,5 @@
 -- What is read down a page's path while nobody comes between.
-use Rattle.std.specs.Prelude.{◌≡◌, ℕ, List, [], ◌∷◌, Option, Some, None, IsSome}
+use Rattle.std.specs.Prelude.{◌≡◌, ℕ, List, [], ◌∷◌, Some, None, IsSome}
 use Rattle.gup_spec_tables.specs.Tables.{TreeValue, lacks}
 use Rattle.gup_spec_tables.specs.Paths.{link_at, entry_at}
 
