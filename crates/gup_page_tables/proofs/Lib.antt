@@ -5,3 +5,4 @@ pub mod Taken
 pub mod TakenOut
 pub mod Fuller
 pub mod PathWords
+pub mod Bare

@@ -4,6 +4,7 @@ use Rattle.gup_limbo.specs.Limbo.{LimboValue, no_limbo, with_retired}
 use Rattle.gup_plain.specs.Put.{lowest}
 use Rattle.gup_tables.specs.Pool.{PoolValue, with_free}
 use Rattle.gup_tables.specs.Rows.{RowLists}
+use Rattle.gup_spec_tables.specs.declared.place.Place.{Place}
 use Rattle.gup_spec_tables.specs.Tables.{TreeValue, no_tree, with_table, without_table, detachable, is_among}
 use Rattle.gup_tables.specs.Tree.{tree_of}
 
@@ -14,6 +15,10 @@ pub record TablesValue : Type 0 where
 
 abbrev pub no_tables : (room : ℕ) → TablesValue
 no_tables room = record { tree = no_tree room; limbo = no_limbo room }
+
+-- there is no table, neither in the tree nor taken out of it
+abbrev pub IsBare : (place : ℕ → Option Place) → (retired : List ℕ) → Type 0
+IsBare place retired = ((table : ℕ) → place table ≡ None) × (retired ≡ [])
 
 -- what they are kept as
 pub record TablesParts : Type 0 where

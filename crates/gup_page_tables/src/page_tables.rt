@@ -1,5 +1,5 @@
 //! The page tables of one process.
-ghost use Rattle.std.specs.Prelude.{◌≡◌, ℕ, ◌+◌, ◌-◌, ◌<◌, ◌≤◌, ◌^◌, ◌==◌, nat_lt, if◌then◌else◌, [], length, true, false, is_err, is_some, None, Some, IfOk, IfSome, IsSome, OnOk, OnErr, MatchOption, OnSome};
+ghost use Rattle.std.specs.Prelude.{◌≡◌, ℕ, ◌+◌, ◌-◌, ◌/◌, ◌<◌, ◌≤◌, ◌^◌, ◌↔◌, IsTrue, ◌==◌, nat_lt, if◌then◌else◌, [], length, true, false, is_err, is_some, None, Some, IfOk, IfSome, IsSome, OnOk, OnErr, MatchOption, OnSome};
 ghost use Rattle.std.specs.VecDeque.Iter.{deque_iter_rest};
 ghost use Rattle.gup_base.specs.Packing.{pack_of};
 ghost use Rattle.gup_limbo.specs.Limbo.{LimboValue};
@@ -9,8 +9,8 @@ ghost use Rattle.gup_spec_tables.specs.Tables.{table_at, on_path, lacks, detacha
 ghost use Rattle.gup_spec_tables.specs.Paths.{path_to, entry_at, leads_still, KeepsPath};
 ghost use Rattle.gup_tables.specs.Path.{tables_on};
 ghost use Rattle.gup_tables.specs.Tree.{tree_of};
-ghost use Rattle.gup_page_tables.specs.PageTables.{tables_of, no_tables, both, some_of, all_of, has_table, IsOf, freed_by, cleared, reclaims, grows, retires, shrinks};
-ghost use Rattle.gup_page_tables.specs.Kept.{IsKept};
+ghost use Rattle.gup_page_tables.specs.PageTables.{tables_of, no_tables, both, some_of, all_of, has_table, IsOf, IsBare, freed_by, cleared, reclaims, grows, retires, shrinks};
+ghost use Rattle.gup_page_tables.specs.Kept.{IsKept, LacksNone};
 
 use gup_base::{Entry, NoMemory, PageNo, unpack};
 use gup_limbo::{Limbo, Reclaim};
@@ -39,17 +39,20 @@ impl Error for NoTable {}
 pub struct PageTables {
     tree: Tree,
     limbo: Limbo<Table>,
+    // The page that was given its tables last, while none has been taken out since: it lacks none, so no page beside it does.
+    whole: Option<PageNo>,
 }
 
 impl Model for PageTables {
     ghost use Rattle.gup_page_tables.specs.PageTables.{TablesParts, tables_of};
-    ghost use Rattle.gup_page_tables.specs.Kept.{IsKept};
+    ghost use Rattle.gup_page_tables.specs.Kept.{IsKept, LacksNone};
+    ghost use Rattle.gup_tables.specs.Tree.{tree_of};
 
     ghost Value = { TablesParts };
 
     ghost view = { λ t. record { rows = t.tree; limbo = t.limbo } };
 
-    ghost invariant = { λ t. IsKept (tables_of record { rows = t.tree; limbo = t.limbo }) };
+    ghost invariant = { λ t. IsKept (tables_of record { rows = t.tree; limbo = t.limbo }) × LacksNone (tree_of t.tree) t.whole };
 }
 
 // Gives all that waits back to the pool, unless a walk runs.
@@ -123,6 +126,26 @@ fn take_out_all(tree: &mut Tree, limbo: &mut Limbo<Table>, page: PageNo)
     take_out(tree, limbo, page);
 }
 
+// How many tables of the page's path are missing: none where those of a page beside it are all there.
+#[inline]
+fn lacking(tree: &Tree, whole: Option<PageNo>, page: PageNo) -> u8
+    requires { LacksNone (tree_of tree.now) whole }
+    ensures { result ≡ lacks (tree_of tree.now) page }
+{
+    match whole {
+        Some(whole) if are_beside(whole, page) => 0,
+        _ => tree.lacks(page),
+    }
+}
+
+// Whether both pages have their entries in one table.
+#[inline]
+fn are_beside(one: PageNo, other: PageNo) -> bool
+    ensures { IsTrue result ↔ (one / 512 ≡ other / 512) }
+{
+    one.get() / 512 == other.get() / 512
+}
+
 impl PageTables {
     /// No tables, and no walk. There is the memory for `room` tables, at most 8,192, in the tree, and for as many that wait; none of
     /// it is touched before a table needs it. No other call takes any.
@@ -132,7 +155,11 @@ impl PageTables {
     {
         let tree = Tree::new(alloc, room)?;
         let limbo = Limbo::new(alloc, room)?;
-        Ok(PageTables { tree, limbo })
+        Ok(PageTables {
+            tree,
+            limbo,
+            whole: None,
+        })
     }
 
     /// The page's entry, if it has one.
@@ -164,7 +191,7 @@ impl PageTables {
     pub fn lacks(&self, page: PageNo) -> u8
         ensures { result ≡ lacks (tables_of self.now).tree page }
     {
-        self.tree.lacks(page)
+        lacking(&self.tree, self.whole, page)
     }
 
     /// The number of the root, if there is a table.
@@ -173,6 +200,14 @@ impl PageTables {
         ensures { result ≡ table_at (tables_of self.now).tree.place (on_path 4 0) }
     {
         self.tree.root()
+    }
+
+    /// Whether there is no table, neither in the tree nor taken out of it.
+    #[inline]
+    pub fn is_bare(&self) -> bool
+        ensures { IsTrue result ↔ IsBare (tables_of self.now).tree.place (tables_of self.now).limbo.retired }
+    {
+        self.tree.root().is_none() && self.limbo.items().len() == 0
     }
 
     /// Where the table stands, if it is in the tree.
@@ -302,11 +337,12 @@ impl PageTables {
         ensures own { IsOf (both self.new (pool_of pool.new)) }
     {
         reclaim_all(&mut self.limbo, pool);
-        let lacking = self.tree.lacks(page);
+        let lacking = lacking(&self.tree, self.whole, page);
         if pool.free() < u32::from(lacking) {
             return Err(NoTable);
         }
         take_all(&mut self.tree, &self.limbo, pool, page, lacking);
+        self.whole = Some(page);
         Ok(())
     }
 
@@ -320,6 +356,7 @@ impl PageTables {
         ensures room { (tables_of self.new).tree.room ≡ (tables_of self.old).tree.room }
         ensures own { IsOf (both self.new (pool_of pool.new)) }
     {
+        self.whole = None;
         take_out_all(&mut self.tree, &mut self.limbo, page);
         reclaim_all(&mut self.limbo, pool);
     }

@@ -1,5 +1,5 @@
 //! One process of the machine.
-ghost use Rattle.std.specs.Prelude.{◌≡◌, ℕ, ◌+◌, ◌-◌, ◌<◌, ◌≤◌, ◌^◌, ◌↔◌, not, true, false, is_some, is_err, is_ok, None, Some, Err, IfOk, IfSome, IfNone, OnOk, OnErr, IsSome, MatchOption, OnSome, length};
+ghost use Rattle.std.specs.Prelude.{◌≡◌, ℕ, ◌+◌, ◌-◌, ◌<◌, ◌≤◌, ◌^◌, ◌↔◌, IsTrue, not, true, false, is_some, is_err, is_ok, None, Some, Err, IfOk, IfSome, IfNone, OnOk, OnErr, IsSome, MatchOption, OnSome, length};
 ghost use Rattle.std.specs.VecDeque.Iter.{deque_iter_rest};
 ghost use Rattle.gup_base.specs.Packing.{pack_of};
 ghost use Rattle.gup_plain.specs.Denial.{any_mapped, any_unmapped};
@@ -11,7 +11,7 @@ ghost use Rattle.gup_spec_tables.specs.Tables.{table_at, on_path, word_of, read_
 ghost use Rattle.gup_spec_tables.specs.Paths.{path_to, entry_at, leads_still, KeepsPath};
 ghost use Rattle.gup_tables.specs.Path.{tables_on};
 ghost use Rattle.gup_tables.specs.Pool.{pool_of};
-ghost use Rattle.gup_page_tables.specs.PageTables.{tables_of};
+ghost use Rattle.gup_page_tables.specs.PageTables.{tables_of, IsBare};
 ghost use Rattle.gup_maps.specs.Maps.{IsNextPage, IsLastPage};
 ghost use Rattle.gup_space.specs.Space.{no_space, space_of, with_entry, with_rights, with_pages, without_page, tables_in, lacking, OwnsTables};
 ghost use Rattle.gup_space.specs.Shows.{ShowsSpace, ShowsPool};
@@ -153,6 +153,14 @@ impl Space {
         ensures { result ≡ table_at (space_of self.now).place (on_path 4 0) }
     {
         self.tables.root()
+    }
+
+    /// Whether the process has no page table, neither in the tree nor taken out of it.
+    #[inline]
+    pub fn is_bare(&self) -> bool
+        ensures { IsTrue result ↔ IsBare (space_of self.now).place (space_of self.now).retired }
+    {
+        self.tables.is_bare()
     }
 
     /// Where the table stands, if it is in the tree.

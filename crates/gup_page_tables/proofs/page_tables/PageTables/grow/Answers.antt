@@ -14,11 +14,11 @@ take_all-requires-clause-own c =
     let b = all_of c.self.inside.tree c.self.inside.limbo (pool_of c.args.pool.now) in
     let own : IsOf b = rw (← c.self.view_is) at c.requires in
     let is = ap (λ l. all_with b l (pool_of c.reclaim_all.new.pool)) c.reclaim_all.ensures.limbo ∙ ap (all_with b (cleared c.self.inside.limbo)) c.reclaim_all.ensures.pool in
-    own_is _ _ is (reclaims_own b c.self.invariant own)
+    own_is _ _ is (reclaims_own b c.self.invariant.0 own)
 
 pub returns-then-free-from-clause-own : goal.returns-then-free-from-clause-own
 returns-then-free-from-clause-own c =
     let b = all_of c.self.inside.tree c.self.inside.limbo (pool_of c.args.pool.now) in
     let own : IsOf b = rw (← c.self.view_is) at c.requires in
     let is = ap (λ l. all_with b l (pool_of c.reclaim_all.new.pool)) c.reclaim_all.ensures.limbo ∙ ap (all_with b (cleared c.self.inside.limbo)) c.reclaim_all.ensures.pool in
-    own_is _ _ is (reclaims_own b c.self.invariant own)
+    own_is _ _ is (reclaims_own b c.self.invariant.0 own)
