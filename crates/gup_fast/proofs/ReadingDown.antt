@@ -1,5 +1,5 @@
 -- A walk reads down a page's path: what it reads in a state is what it reads in the process that the state shows.
-use Rattle.std.specs.Prelude.{◌≡◌, ℕ, ◌<◌, ◌==◌, ◌&&◌, ◌||◌, not, nat_lt, Bool, true, false, if◌then◌else◌, List, length, Option, Some, None, IfSome, IsSome, is_some}
+use Rattle.std.specs.Prelude.{◌≡◌, ℕ, ◌<◌, ◌==◌, ◌&&◌, ◌||◌, not, nat_lt, Bool, true, false, if◌then◌else◌, List, [], ◌∷◌, length, Option, Some, None, IfSome, IsSome, is_some}
 use Rattle.std.specs.Option.{option_map}
 use Rattle.std.proofs.Common.{refl, sym, ap, subst, ◌∙◌, arith}
 use Rattle.gup_base.specs.declared.entry.Entry.{Entry}
@@ -7,11 +7,12 @@ use Rattle.gup_base.specs.declared.entry.Want.{Want}
 use Rattle.gup_frames.specs.Frames.{FramesValue, IsFrame}
 use Rattle.gup_space.specs.Shows.{ShowsFrames, ShowsSpace}
 use Rattle.gup_space.specs.Space.{SpaceValue, tables_in}
-use Rattle.gup_spec_tables.specs.Tables.{TreeValue, lacks}
-use Rattle.gup_spec_tables.specs.Paths.{entry_at, is_there, path_to}
+use Rattle.gup_spec_tables.specs.Tables.{TreeValue, table_at, on_path, lacks}
+use Rattle.gup_spec_tables.specs.Paths.{entry_at, is_there, and_table, path_to}
 use Rattle.gup_spec_events.specs.State.{CoreState, Job, WalkStep, walking, ready, read, stopped}
 use Rattle.gup_spec_events.specs.Event.{run, tree_in, step_read}
 use Rattle.gup_spec_events.specs.Descent.{reads_down, step_down}
+use Rattle.gup_law_tables.proofs.DownPaths.{stands_there}
 use Rattle.gup_law_tables.proofs.ReadDown.{leads_down}
 use Rattle.gup_plain.specs.Put.{put}
 use Rattle.gup_fast.specs.declared.walk.GiveUp.{GiveUp}
@@ -78,3 +79,27 @@ none_down v page missing full = go (is_there v (path_to v page) page && (length 
     go false o is = refl
     go true None is = is
     go true (Some e) is = let none : lacks v page ≡ 0 = full (ap is_some is) in absurd (omega (arith, none, missing))
+
+-- where all are there, what is read at the end is the page's entry
+pub whole_down : (v : TreeValue) (page last second third : ℕ) → path_to v page ≡ last ∷ second ∷ third ∷ [] → entry_down_in v page ≡ v.entry page
+whole_down v page last second third is =
+    let at = first (table_at v.place (on_path 1 page)) (table_at v.place (on_path 2 page)) (table_at v.place (on_path 3 page)) is in
+    ap (λ (path : List ℕ). entry_at v path page) is ∙ ap (λ (b : Bool). if b && true then v.entry page else None) (stands_there v page 1 last at)
+  where
+    first : (o1 o2 o3 : Option ℕ) → and_table o1 (and_table o2 (and_table o3 [])) ≡ last ∷ second ∷ third ∷ [] → o1 ≡ Some last
+    first (Some l) (Some s) (Some t) is = cc
+    first (Some l) (Some s) None is = absurd (cc)
+    first (Some l) None (Some t) is = absurd (cc)
+    first (Some l) None None is = absurd (cc)
+    first None (Some s) (Some t) is = absurd (cc)
+    first None (Some s) None is = absurd (cc)
+    first None None (Some t) is = absurd (cc)
+    first None None None is = absurd (cc)
+
+-- and where one is missing, there is none
+pub none_same : (v : TreeValue) (page : ℕ) → 0 < lacks v page → (IsSome (v.entry page) → lacks v page ≡ 0) → entry_down_in v page ≡ v.entry page
+none_same v page missing full = none_down v page missing full ∙ sym (go (v.entry page) refl)
+  where
+    go : (o : Option Entry) → v.entry page ≡ o → v.entry page ≡ None
+    go None is = is
+    go (Some e) is = let none : lacks v page ≡ 0 = full (ap is_some is) in absurd (omega (arith, none, missing))

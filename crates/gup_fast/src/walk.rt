@@ -279,6 +279,7 @@ impl Walk {
         requires there { IfSome ((space_of space.now).entry (next_page self.old)) (λ e. IsFrame (frames_of frames.now) e.frame) }
         ensures found { result ≡ entry_found (frames_of frames.now) self.old.want
             (entry_down_in (tables_in (space_of space.now)) (next_page self.old)) }
+        ensures entry { entry_down_in (tables_in (space_of space.now)) (next_page self.old) ≡ (space_of space.now).entry (next_page self.old) }
         ensures walk { self.new ≡ at_stage (at (step_after_read (frames_of frames.now) self.old.want (next_page self.old)
             (path_to (tables_in (space_of space.now)) (next_page self.old))
             (entry_down_in (tables_in (space_of space.now)) (next_page self.old)))) self.old }
@@ -497,6 +498,7 @@ impl Walk {
 fn read_down(space: &Space, page: PageNo) -> Option<(Path, Entry)>
     ensures path { IfSome result (λ r. path_to (tables_in (space_of space.now)) page ≡ tables_on r.0) }
     ensures entry { entry_down_in (tables_in (space_of space.now)) page ≡ option_map (λ r. r.1) result }
+    ensures same { entry_down_in (tables_in (space_of space.now)) page ≡ (space_of space.now).entry page }
 {
     space.has_path(page);
     let path = space.path(page)?;

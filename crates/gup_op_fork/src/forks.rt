@@ -52,7 +52,7 @@ pub enum Forked {
 /// mappings and its entries, and the parent's locks are free again (of Linux's `dup_mmap`, which fails with `ENOMEM`
 /// then). So it does where the child lacks a page table for a page that is shared or copied; no frame is taken then (of
 /// Linux's `copy_pte_range`, which fails with `ENOMEM` where it is given no page table).
-#[inline(never)]
+#[inline(always)]
 pub fn fork(
     parent: &mut Space,
     child: &mut Space,
@@ -206,6 +206,7 @@ pub fn next_page(child: &Space, from: u64) -> Option<PageNo>
 }
 
 // The end, which frees the parent's structure lock.
+#[inline(never)]
 fn last_turn(parent: &mut Space, journal: &mut Journal, head: &Head, proc: ProcNo, child_no: ProcNo)
     requires room { 3 ≤ journal.old.room }
     requires sequence { (space_of parent.old).sequence < 2 ^ 40 }
@@ -303,6 +304,7 @@ fn take_for(child: &Space, frames: &mut Frames, page: PageNo) -> Option<FrameNo>
 }
 
 // The failure, which frees both locks of the parent.
+#[inline(never)]
 fn fail_turn(
     parent: &mut Space,
     child: &mut Space,

@@ -1,4 +1,4 @@
--- The turn of an operation by itself leaves which page tables are free: only growth takes one, and only what shrinks gives some back.
+-- The turn of an operation by itself leaves all page tables: only growth takes one, and only what shrinks gives some back.
 use Rattle.std.proofs.Common.{◌==◌, ◌&&◌, ◌||◌, ◌≡◌, ℕ, ◌+◌, ◌++◌, Bool, true, false, List, [], ◌∷◌, length, nat_lt, if◌then◌else◌, Option, Some, None, Ok, Err, zero, suc, refl, ap, ◌∙◌}
 use Rattle.gup_base.specs.Parts.{words_of, word_at}
 use Rattle.gup_base.specs.declared.entry.Allowed.{Allowed}
@@ -17,6 +17,7 @@ use Rattle.gup_script.specs.declared.op.Op.{Op}
 use Rattle.gup_script.specs.declared.op.Op.TheVariants.{Map, Unmap, Protect, Discard, Load, Store, Pin, Unpin, Give, Get, Put, Transfer, Fork, Exit, Move, Mirror, Look}
 use Rattle.gup_spec_events.specs.State.{CoreState, Job, forking, ForkStep, between, copying, idle, moving, Counted, unread, one, more, walking, Taken, WalkStep, entered, ready, read, grabbed, refused, stopped, dropping, counted}
 use Rattle.gup_spec_events.specs.Event.{CoreEvent, entry_of, take_frame, put_entry, place_frame, restore_entry, clear_entry, pin_page, make_handle, upgrade, load, store, get_reference, fill_mirror, lower_entry, protect_pages, drop_entry, run, has_tables, is_odd, read_sequence, read_link, read_again, fail_fork, tree_in}
+use Rattle.gup_spec_tables.specs.declared.place.Place.{Place}
 use Rattle.gup_spec_tables.specs.Tables.{TreeValue}
 use Rattle.gup_spec_tables.specs.Paths.{link_at, entry_at, leads_still}
 use Rattle.gup_spec_events.specs.Descent.{led_on, reads_on}
@@ -36,12 +37,21 @@ use Rattle.gup_spec_turns.specs.CoreTurn.{free_in, frame_for, entry_in, zones_of
 use Rattle.gup_spec_turns.proofs.TurnParts.{loads_after, stores_after, store_fault_by, map_turn_by, unmap_turn_by, protect_turn_by, discard_turn_by, unpin_turn_by, give_turn_by, gets_after, put_turn_by, transfer_turn_by, clear_turn_by}
 use Rattle.gup_spec_turns.proofs.Unseen.{emptying_reads}
 
--- these events leave which tables are free
+-- which tables are free, where each stands, and which ones wait
+pub record AllTables : Type 0 where
+  pub free : ℕ → Bool
+  pub place : ℕ → ℕ → Option Place
+  pub retired : ℕ → List ℕ
+
+abbrev pub all_tables : CoreState → AllTables
+all_tables s = record { free = s.free_table; place = s.place; retired = s.retired }
+
+-- these events leave all tables
 abbrev Keeps : List CoreEvent → Type 0
-Keeps es = (s : CoreState) → (run s es).free_table ≡ s.free_table
+Keeps es = (s : CoreState) → all_tables (run s es) ≡ all_tables s
 
 keeps_both : (es fs : List CoreEvent) → Keeps es → Keeps fs → Keeps (es ++ fs)
-keeps_both es fs first second s = ap (λ (t : CoreState). t.free_table) (run_behind s es fs) ∙ second (run s es) ∙ first s
+keeps_both es fs first second s = ap all_tables (run_behind s es fs) ∙ second (run s es) ∙ first s
 
 fault_if : (b : Bool) (x y : Fault) → Keeps (events_of x) → Keeps (events_of y) → Keeps (events_of (if b then x else y))
 fault_if true x y first second = first
@@ -393,8 +403,11 @@ turn_keeps : (b : Birth) (s : CoreState) (a p slots far : ℕ) (op : Op) → Kee
 turn_keeps failed s a p slots far op = refused_keeps a p op
 turn_keeps b s a p slots far op = op_keeps s a p slots far op
 
-pub own_keeps : (s : CoreState) (who : Doer) (far : ℕ) (op : Op) → (run s (own_turn s who far op).events).free_table ≡ s.free_table
+pub own_keeps : (s : CoreState) (who : Doer) (far : ℕ) (op : Op) → all_tables (run s (own_turn s who far op).events) ≡ all_tables s
 own_keeps s who far op =
     let b : Birth = birth_for s.birth who in
-    emptying_reads (λ (t : CoreState). t.free_table) (λ filled t. refl) s who.actor (turn_at b (failed_turn who.actor who.proc op) (op_turn s who.actor who.proc who.slots far op))
+    emptying_reads all_tables (λ filled t. refl) s who.actor (turn_at b (failed_turn who.actor who.proc op) (op_turn s who.actor who.proc who.slots far op))
     ∙ turn_keeps b s who.actor who.proc who.slots far op s
+
+pub own_keeps_free : (s : CoreState) (who : Doer) (far : ℕ) (op : Op) → (run s (own_turn s who far op).events).free_table ≡ s.free_table
+own_keeps_free s who far op = ap (λ (t : AllTables). t.free) (own_keeps s who far op)

@@ -1,8 +1,10 @@
 -- Pages whose tables a turn changes.
-use Rattle.std.specs.Prelude.{◌≡◌, ℕ, ◌+◌, ◌<◌, ◌^◌, Bool, true, false, Option, Some, None}
+use Rattle.std.specs.Prelude.{◌≡◌, ℕ, ◌+◌, ◌<◌, ◌^◌, ◌⊎◌, Bool, true, false, List, Option, Some, None}
 use Rattle.gup_base.specs.declared.entry.Rights.{Rights}
 use Rattle.gup_script.specs.declared.op.Op.{Op}
 use Rattle.gup_script.specs.declared.op.Op.TheVariants.{Unmap, Pin, Exit}
+use Rattle.gup_spec_tables.specs.declared.place.Place.{Place}
+use Rattle.gup_page_tables.specs.PageTables.{IsBare}
 use Rattle.gup_spec_turns.specs.JobPlace.{JobPlace, at_page, wants_frame, moving_page, in_walk}
 use Rattle.gup_spec_turns.specs.PageTurns.{lowest_page}
 use Rattle.gup_spec_turns.specs.TableTurns.{Spot, spot, if_mapped, lowest_spot}
@@ -29,6 +31,10 @@ abbrev pub fork_at : (c : ℕ) → JobPlace → Option Spot
 fork_at c (at_page page) = spot c page
 fork_at c (wants_frame page) = spot c page
 fork_at c place = None
+
+-- the page whose tables a turn is to look after; or none, where the process has no table
+abbrev pub IsDown : (place : ℕ → Option Place) → (retired : List ℕ) → (at want : Option Spot) → Type 0
+IsDown place retired at want = (at ≡ want) ⊎ (IsBare place retired × (at ≡ None))
 
 -- the page that an unmapping or an exit takes down, by the rights before
 abbrev pub retired_spot : (right : ℕ → Option Rights) → (p far : ℕ) → Op → Option Spot

@@ -20,6 +20,7 @@ use gup_tables::Pool;
 
 /// Gives the page the tables that it lacks, as [`Space::grow`] does, or none where too few are free. Where there is no page nothing
 /// changes.
+#[inline(always)]
 pub fn grow(spaces: &mut [Space], pool: &mut Pool, at: Option<Spot>)
     requires there { IfSome at (λ x. x.proc < length spaces.old) }
     requires own { IfSome at (λ x. OwnsAt spaces.old x.proc (pool_of pool.old)) }
@@ -38,6 +39,7 @@ pub fn grow(spaces: &mut [Space], pool: &mut Pool, at: Option<Spot>)
 }
 
 /// Takes the empty tables of the page's path out, as [`Space::retire`] does. Where there is no page nothing changes.
+#[inline(always)]
 pub fn retire(spaces: &mut [Space], pool: &mut Pool, at: Option<Spot>)
     requires there { IfSome at (λ x. x.proc < length spaces.old) }
     requires own { IfSome at (λ x. OwnsAt spaces.old x.proc (pool_of pool.old)) }

@@ -9,11 +9,11 @@ ghost use Rattle.gup_spec_events.specs.State.{CoreState};
 ghost use Rattle.gup_spec_turns.specs.CoreTurn.{allows_store};
 ghost use Rattle.gup_spec_turns.specs.JobPlace.{place_in};
 ghost use Rattle.gup_spec_turns.specs.PageTurns.{lowest_page as lowest_mapped};
-ghost use Rattle.gup_spec_turns.specs.TableTurns.{if_mapped as mapped_spot, if_writable as writable_spot, pinned_at, unless, grown_by};
+ghost use Rattle.gup_spec_turns.specs.TableTurns.{if_mapped as mapped_spot, if_writable as writable_spot, lowest_spot, pinned_at, unless, grown_by};
 ghost use Rattle.gup_op_base.specs.Far.{HasFar, far_in};
 ghost use Rattle.gup_op_base.specs.Jobs.{place_of};
 ghost use Rattle.gup_op_base.specs.Tidy.{AreNumbered};
-ghost use Rattle.gup_op_tables.specs.Spots.{spot_of, is_slow as slow, fork_at, HasPage, retired_spot};
+ghost use Rattle.gup_op_tables.specs.Spots.{spot_of, is_slow as slow, fork_at, HasPage, IsDown, retired_spot};
 
 use gup_base::{PageNo, ProcNo, Rights};
 use gup_op_base::{JobPlace, page_behind};
@@ -30,6 +30,7 @@ pub struct Spot {
 /// The page that the next turn of the operation makes ready, if it makes one ready and its rights allow that: that of a load, a store,
 /// a reference, a mirror, the next of a pin that doesn't walk, and that which a fork shares or takes a frame for, of its child. The
 /// operation is of process `proc`; `far` of its turns are over, as a pin it has taken `got` pages, and its actor stands there.
+#[inline(always)]
 pub fn page_to_grow(
     space: &Space,
     proc: ProcNo,
@@ -170,26 +171,52 @@ fn forked(child: ProcNo, place: &JobPlace) -> Option<Spot>
 }
 
 /// The page that the next turn of the operation takes down, if it takes one down: that of an unmapping, or the lowest mapped one of an
-/// exit. The operation is of process `proc`, and `far` of its turns are over.
+/// exit. There is none where the process has no page table, since none can go then. The operation is of process `proc`, and `far` of
+/// its turns are over.
+#[inline(always)]
 pub fn page_to_retire(space: &Space, proc: ProcNo, far: u16, op: &Op) -> Option<Spot>
     requires numbered { AreNumbered (space_of space.now) }
     requires op { IsOp op.now }
     requires far { HasFar op.now far }
     ensures spot { (s : CoreState) (k : ℕ) → ShowsSpace proc (space_of space.now) s → far ≡ far_in (Some op.now) k
-        → spot_of result ≡ retired_spot (s.right proc) proc k op.now }
+        → IsDown (s.place proc) (s.retired proc) (spot_of result) (retired_spot (s.right proc) proc k op.now) }
     ensures of { IfSome result (λ at. at.proc ≡ proc) }
 {
     match op {
-        Op::Unmap { page, .. } => if_mapped(space, proc, page_behind(*page, far)),
-        Op::Exit => {
-            let page = lowest_page(space)?;
-            Some(Spot { proc, page })
-        }
+        Op::Unmap { page, .. } => unmapped(space, proc, page_behind(*page, far)),
+        Op::Exit => emptied(space, proc),
         _ => None,
     }
 }
 
+// The page, if it is mapped; none where the process has no page table.
+#[inline]
+fn unmapped(space: &Space, proc: ProcNo, page: PageNo) -> Option<Spot>
+    ensures spot { IsDown (space_of space.now).place (space_of space.now).retired (spot_of result) (mapped_spot proc page ((space_of space.now).right page)) }
+    ensures of { IfSome result (λ at. at.proc ≡ proc) }
+{
+    if space.is_bare() {
+        return None;
+    }
+    if_mapped(space, proc, page)
+}
+
+// The lowest mapped page; none where the process has no page table.
+#[inline]
+fn emptied(space: &Space, proc: ProcNo) -> Option<Spot>
+    requires { AreNumbered (space_of space.now) }
+    ensures spot { IsDown (space_of space.now).place (space_of space.now).retired (spot_of result) (lowest_spot proc (lowest_mapped (space_of space.now).right)) }
+    ensures of { IfSome result (λ at. at.proc ≡ proc) }
+{
+    if space.is_bare() {
+        return None;
+    }
+    let page = lowest_page(space)?;
+    Some(Spot { proc, page })
+}
+
 // The lowest mapped page.
+#[inline]
 fn lowest_page(space: &Space) -> Option<PageNo>
     requires { AreNumbered (space_of space.now) }
     ensures { result ≡ lowest_mapped (space_of space.now).right }

@@ -13,7 +13,7 @@ ghost use Rattle.gup_op_base.specs.Tidy.{AreNumbered};
 ghost use Rattle.gup_op_waits.specs.Doers.{HasProcess};
 ghost use Rattle.gup_op_waits.specs.Parts.{EachSpace};
 ghost use Rattle.gup_op_tables.specs.Alike.{IsGrown, EachPair, ShowsEach};
-ghost use Rattle.gup_op_tables.specs.Spots.{spot_of, is_slow, retired_spot};
+ghost use Rattle.gup_op_tables.specs.Spots.{spot_of, is_slow, IsDown, retired_spot};
 ghost use Rattle.gup_op_tables.specs.Turns.{AreParted, GrowsFor, ShrinksFor, child_at};
 
 use crate::changes::{grow, release, retire};
@@ -27,6 +27,7 @@ use gup_tables::Pool;
 
 /// Before the operation's own turn: the page that it makes ready gets the page tables that it lacks, or none where too few are free
 /// ([`page_to_grow`]). The operation is of this process, that hasn't failed, if it is of one.
+#[inline(always)]
 pub fn grow_for(
     parts: &mut Parts,
     pool: &mut Pool,
@@ -73,7 +74,8 @@ fn pages_taken(parts: &Parts, actor: ActorNo) -> u8
     parts.taken[actor.get() as usize].len() as u8
 }
 
-/// The page that the operation's turn takes down, if it takes one down ([`page_to_retire`]).
+/// The page that the operation's turn takes down, if it takes one down and the process has a page table ([`page_to_retire`]).
+#[inline(always)]
 pub fn page_down(spaces: &Vec<Space>, proc: Option<ProcNo>, far: u16, op: &Op) -> Option<Spot>
     requires process { HasProcess op.now → IsSome proc }
     requires space { IfSome proc (λ p. p < length spaces.now.items) }
@@ -82,13 +84,14 @@ pub fn page_down(spaces: &Vec<Space>, proc: Option<ProcNo>, far: u16, op: &Op) -
     requires far { HasFar op.now far }
     ensures of { IfSome result (λ at. proc ≡ Some at.proc) }
     ensures spot { (s : CoreState) (k p : ℕ) → IfSome proc (λ q. q ≡ p) → ShowsEach spaces.now.items s → far ≡ far_in (Some op.now) k
-        → spot_of result ≡ retired_spot (s.right p) p k op.now }
+        → IsDown (s.place p) (s.retired p) (spot_of result) (retired_spot (s.right p) p k op.now) }
 {
     let proc = proc?;
     page_to_retire(&spaces[proc.get() as usize], proc, far, op)
 }
 
 /// The child of a fork that has begun before its turn.
+#[inline(always)]
 pub fn child_before(job: &JobPlace, op: &Op) -> Option<ProcNo>
     ensures { result ≡ child_at (place_of job.now) op.now }
 {
@@ -103,6 +106,7 @@ pub fn child_before(job: &JobPlace, op: &Op) -> Option<ProcNo>
 
 /// After the operation's own turn: the empty page tables of the page that it took down go, or, if it was that of a fork that has failed,
 /// those of the child.
+#[inline(always)]
 pub fn shrink_for(
     parts: &mut Parts,
     pool: &mut Pool,

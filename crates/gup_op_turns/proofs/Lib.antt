@@ -14,5 +14,6 @@ pub mod ReadyGrown
 pub mod CopyWhole
 pub mod Emptied
 pub mod Tabled
+pub mod BareTables
 pub mod WholeTurn
 pub mod OwnTables

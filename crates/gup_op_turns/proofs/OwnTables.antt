@@ -21,7 +21,7 @@ use Rattle.gup_op_waits.specs.Parts.{EachSpace}
 use Rattle.gup_op_waits.specs.declared.parts.Parts.{Parts}
 use Rattle.gup_op_tables.specs.Alike.{ShowsEach}
 use Rattle.gup_op_tables.specs.Turns.{AreParted, GrowsFor}
-use Rattle.gup_op_tables.proofs.FreeTables.{own_keeps}
+use Rattle.gup_op_tables.proofs.FreeTables.{own_keeps_free}
 use Rattle.gup_op_turns.specs.Goes.{IsFrom, HasSlots}
 use Rattle.gup_op_turns.proofs.Turning.{IsTurnWith}
 use Rattle.gup_op_turns.proofs.WholeTurn.{behind}
@@ -66,5 +66,5 @@ module _ (a : ℕ) (proc : Option ℕ) (far : ℕ) (op : Op) (place next : JobPl
       let first = can_ahead s growth (events ++ shrinks_for t u who k op) from.can in
       let second = can_ahead t events (shrinks_for t u who k op) first.1 in
       let stand : TablesStand u = stand_run t events (stand_run s growth from.tables first.0) second.0 in
-      owned own_parts.spaces.items now u led.shown.parts.spaces (own_keeps t who k op ∙ here.free) stand
+      owned own_parts.spaces.items now u led.shown.parts.spaces (own_keeps_free t who k op ∙ here.free) stand
       (λ table is. subst (λ n. table < n) (sym tables) (from.few table (not_made_run s growth table first.0 (not_made_run t events table second.0 is))))

@@ -1,10 +1,12 @@
 -- A turn with the page tables that it changes: they grow before the operation's own turn, and others go after it.
-use Rattle.std.proofs.Common.{◌≡◌, ℕ, ◌<◌, List, ◌++◌, length, Option, Some, None, IsSome, IfSome, refl, sym, subst, ap, ◌∙◌}
+use Rattle.std.proofs.Common.{◌≡◌, ℕ, ◌+◌, ◌<◌, ◌⊎◌, inl, inr, List, ◌++◌, length, Option, Some, None, IsSome, IfSome, refl, sym, subst, ap, ◌∙◌, ⊎_elim}
 use Rattle.gup_plain.specs.State.{Noted, born}
 use Rattle.gup_plain.specs.declared.note.What.{What}
 use Rattle.gup_script.specs.declared.op.Op.{Op}
-use Rattle.gup_script.specs.declared.op.Op.TheVariants.{Fork}
+use Rattle.gup_script.specs.declared.op.Op.TheVariants.{Unmap, Fork, Exit}
 use Rattle.gup_tables.specs.Pool.{PoolValue}
+use Rattle.gup_spec_tables.specs.declared.place.Place.{Place as TablePlace}
+use Rattle.gup_page_tables.specs.PageTables.{IsBare}
 use Rattle.gup_space.specs.Shows.{ShowsPool}
 use Rattle.gup_notify.specs.Mirrors.{MirrorsValue}
 use Rattle.gup_notify.specs.Shows.{ShowsMirrors}
@@ -18,6 +20,7 @@ use Rattle.gup_spec_journal.specs.Place.{Doer, birth_for}
 use Rattle.gup_spec_turns.specs.CoreTurn.{CoreTurn}
 use Rattle.gup_spec_turns.specs.Emptying.{left_in}
 use Rattle.gup_spec_turns.specs.JobPlace.{JobPlace as Place, StandsFork, unbegun, job_place, place_in}
+use Rattle.gup_spec_turns.specs.PageTurns.{lowest_page}
 use Rattle.gup_spec_turns.specs.TableTurns.{Spot, retires_at, fork_shrinks, shrinks_by}
 use Rattle.gup_spec_turns.specs.Turn.{own_turn, turn_of, unless_failed, grows_for, shrinks_for}
 use Rattle.gup_spec_turns.specs.Waits.{waits_born}
@@ -31,10 +34,11 @@ use Rattle.gup_op_waits.specs.Stands.{StandsAt}
 use Rattle.gup_op_waits.specs.declared.parts.Parts.{Parts}
 use Rattle.gup_op_tables.specs.declared.pages.Spot.{Spot as KeptSpot}
 use Rattle.gup_op_tables.specs.Alike.{ShowsEach}
-use Rattle.gup_op_tables.specs.Spots.{spot_of, retired_spot}
+use Rattle.gup_op_tables.specs.Spots.{spot_of, IsDown, retired_spot}
 use Rattle.gup_op_tables.specs.Turns.{AreParted, GrowsFor, ShrinksFor, child_at, shrinks_to}
-use Rattle.gup_op_tables.proofs.FreeTables.{own_keeps}
+use Rattle.gup_op_tables.proofs.FreeTables.{AllTables, all_tables, own_keeps, own_keeps_free}
 use Rattle.gup_op_turns.specs.Goes.{AllView, ShowsAll, ShowsWhole, StandsWith, TakesMirrors, TakesOwnMirrors, all_view, whole_view, HasSlots}
+use Rattle.gup_op_turns.proofs.BareTables.{unmapping_none, exit_none}
 use Rattle.gup_op_turns.proofs.Refusing.{birth_unfailed}
 use Rattle.gup_op_turns.proofs.Tabled.{all_tabled, mirrors_tabled, with_tabled}
 use Rattle.gup_op_turns.proofs.Turning.{IsTurnWith, IsTurnWhole}
@@ -56,7 +60,7 @@ same_whole mirrors old new pool a proc far op place whats next same turn who k o
       says = ap (λ (u : CoreTurn). u.whats) is ∙ led.says;
       shown =
           subst (λ (u : CoreTurn). ShowsWhole a op (whole_view (all_view new next others left) pool) (run s u.events)) (sym is)
-          (record { all = led.shown; pool = own_keeps s who k op ∙ shown.pool });
+          (record { all = led.shown; pool = own_keeps_free s who k op ∙ shown.pool });
     }
 
 pub same_mirrors : (parts : Parts) (pool : PoolValue) (a : ℕ) (proc : Option ℕ) (far : ℕ) (op : Op) (place : JobPlace) (old new : MirrorsValue)
@@ -150,21 +154,46 @@ no_fork unbegun op none = refl
 no_fork place (Fork child) none = absurd (none child refl)
 no_fork place op none = refl
 
--- which tables go after a turn, whatever its operation is
-by_op : (t u : CoreState) (a p k : ℕ) (proc : Option ℕ) (down : Option KeptSpot) (op : Op) → (HasProcess op → proc ≡ Some p) → StandsAt t a p k op → spot_of down ≡ retired_spot (t.right p) p k op
-    → shrinks_by t u a p k op ≡ shrinks_to u a proc down (child_at (place_in t a) op)
-by_op t u a p k proc down (Fork child) some stands is = fork_is u a p child proc down t (t.job a) (t.prepared a) (stands.fork child refl) is (some tt)
-by_op t u a p k proc down op some stands is =
-    sym
+-- a fork takes no page down
+no_spot : (place : ℕ → Option TablePlace) (retired : List ℕ) (down : Option KeptSpot) → IsDown place retired (spot_of down) None → spot_of down ≡ None
+no_spot place retired down is = ⊎_elim (λ none. none) (λ (bare : IsBare place retired × (spot_of down ≡ None)). bare.1) is
+
+-- where no page's tables go, and the operation is no fork
+none_to : (t u : CoreState) (a : ℕ) (proc : Option ℕ) (down : Option KeptSpot) (op : Op) → ((child : ℕ) → op ≡ Fork child → ⊥) → spot_of down ≡ None
+    → run u (shrinks_to u a proc down (child_at (place_in t a) op)) ≡ u
+none_to t u a proc down op other none =
+    ap (λ (forks : Option ℕ). run u (shrinks_to u a proc down forks)) (no_fork (place_in t a) op other)
+    ∙ ap (λ (at : Option Spot). run u (retires_at u a at)) none
+
+-- of a process that has no table none goes
+none_by : (t u : CoreState) (a p k : ℕ) (op : Op) → ((child : ℕ) → op ≡ Fork child → ⊥) → IsBare (u.place p) (u.retired p) → run u (shrinks_by t u a p k op) ≡ u
+none_by t u a p k (Fork child) other bare = absurd (other child refl)
+none_by t u a p k (Unmap page n) other bare = unmapping_none u a p bare (page + k) (t.right p (page + k))
+none_by t u a p k Exit other bare = exit_none u a p bare (lowest_page (t.right p))
+none_by t u a p k op other bare = refl
+
+-- which tables go after a turn that leaves them all, whatever its operation is
+by_op : (t u : CoreState) (a p k : ℕ) (proc : Option ℕ) (down : Option KeptSpot) (op : Op) → all_tables u ≡ all_tables t → (HasProcess op → proc ≡ Some p) → StandsAt t a p k op
+    → IsDown (t.place p) (t.retired p) (spot_of down) (retired_spot (t.right p) p k op)
+    → run u (shrinks_by t u a p k op) ≡ run u (shrinks_to u a proc down (child_at (place_in t a) op))
+by_op t u a p k proc down (Fork child) kept some stands is =
+    ap (run u) (fork_is u a p child proc down t (t.job a) (t.prepared a) (stands.fork child refl) (no_spot (t.place p) (t.retired p) down is) (some tt))
+by_op t u a p k proc down op kept some stands (inl is) =
+    ap (run u)
+    (sym
     (ap (λ (forks : Option ℕ). shrinks_to u a proc down forks) (no_fork (place_in t a) op (λ child same. absurd (cc same)))
-    ∙ ap (λ (at : Option Spot). retires_at u a at) is)
+    ∙ ap (λ (at : Option Spot). retires_at u a at) is))
+by_op t u a p k proc down op kept some stands (inr (bare, none)) =
+    let other : (child : ℕ) → op ≡ Fork child → ⊥ = λ child same. absurd (cc same) in
+    none_by t u a p k op other (subst (λ (tables : AllTables). IsBare (tables.place p) (tables.retired p)) (sym kept) bare)
+    ∙ sym (none_to t u a proc down op other none)
 
 module _ (a : ℕ) (proc : Option ℕ) (far : ℕ) (op : Op) (place next : JobPlace) (mirrors : MirrorsValue) (old grown own_parts new : Parts) (was now last : PoolValue) (whats : List What)
     (unfailed : HasFailed old.births.items proc → ⊥) (within : IfSome proc (λ p. p < length old.births.items))
     (rest : AreParted old grown) (grows : GrowsFor old grown was now a proc far op (place_of place))
     (turn : IsTurnWith mirrors grown own_parts a proc far op place whats next)
     (down : Option KeptSpot) (process : HasProcess op → IsSome proc)
-    (spot : (s : CoreState) (k p : ℕ) → IfSome proc (λ q. q ≡ p) → ShowsEach grown.spaces.items s → far ≡ far_in (Some op) k → spot_of down ≡ retired_spot (s.right p) p k op)
+    (spot : (s : CoreState) (k p : ℕ) → IfSome proc (λ q. q ≡ p) → ShowsEach grown.spaces.items s → far ≡ far_in (Some op) k → IsDown (s.place p) (s.retired p) (spot_of down) (retired_spot (s.right p) p k op))
     (left_over : AreParted own_parts new) (shrinks : ShrinksFor own_parts new now last proc down (child_at (place_of place) op)) where
   if_of : (who : Doer) (o : Option ℕ) → IsProcessOf who o → IfSome o (λ q. q ≡ who.proc)
   if_of who None of_who = tt
@@ -180,19 +209,20 @@ module _ (a : ℕ) (proc : Option ℕ) (far : ℕ) (op : Op) (place next : JobPl
       let led = turn who k others left own of_who grown_slots far_is t here.shown here.stands in
       let events : List CoreEvent = (own_turn t who k op).events in
       let u : CoreState = run t events in
-      let free : ShowsPool now u = own_keeps t who k op ∙ here.free in
+      let free : ShowsPool now u = own_keeps_free t who k op ∙ here.free in
       let shrunk = shrinks u a led.shown.parts free in
-      let at : spot_of down ≡ retired_spot (t.right who.proc) who.proc k op = spot t k who.proc (if_of who proc of_who) here.shown.parts.spaces far_is in
-      let going : shrinks_for t u who k op ≡ shrinks_to u a proc down (child_at (place_of place) op) =
-      ap (unless_failed (shrinks_by t u who.actor who.proc k op)) here.birth
+      let at : IsDown (t.place who.proc) (t.retired who.proc) (spot_of down) (retired_spot (t.right who.proc) who.proc k op) = spot t k who.proc (if_of who proc of_who) here.shown.parts.spaces far_is in
+      let going : run u (shrinks_for t u who k op) ≡ run u (shrinks_to u a proc down (child_at (place_of place) op)) =
+      ap (λ (es : List CoreEvent). run u es)
+      (ap (unless_failed (shrinks_by t u who.actor who.proc k op)) here.birth
       ∙ unless_born (shrinks_by t u who.actor who.proc k op)
-      ∙ ap (λ (b : ℕ). shrinks_by t u b who.proc k op) own
-      ∙ by_op t u a who.proc k proc down op (λ has. some_proc who proc (process has) of_who) here.stands.free.at at
-      ∙ ap (λ (x : Place). shrinks_to u a proc down (child_at x op)) (sym here.shown.job) in
+      ∙ ap (λ (b : ℕ). shrinks_by t u b who.proc k op) own)
+      ∙ by_op t u a who.proc k proc down op (own_keeps t who k op) (λ has. some_proc who proc (process has) of_who) here.stands.free.at at
+      ∙ ap (λ (x : Place). run u (shrinks_to u a proc down (child_at x op))) (sym here.shown.job) in
       let end : run s (turn_of s who k op).events ≡ run u (shrinks_to u a proc down (child_at (place_of place) op)) =
       run_behind s growth (events ++ shrinks_for t u who k op)
       ∙ run_behind t events (shrinks_for t u who k op)
-      ∙ ap (run u) going in
+      ∙ going in
       let each : ShowsEach new.spaces.items (run s (turn_of s who k op).events) = subst (ShowsEach new.spaces.items) (sym end) shrunk.1 in
       record {
         says = led.says;
