@@ -1,6 +1,5 @@
 -- A walk reads down a page's path: what it reads in a state is what it reads in the process that the state shows.
 use Rattle.std.specs.Prelude.{◌≡◌, ℕ, ◌<◌, ◌==◌, ◌&&◌, ◌||◌, not, nat_lt, Bool, true, false, if◌then◌else◌, List, [], ◌∷◌, length, Option, Some, None, IfSome, IsSome, is_some}
-use Rattle.std.specs.Option.{option_map}
 use Rattle.std.proofs.Common.{refl, sym, ap, subst, ◌∙◌, arith}
 use Rattle.gup_base.specs.declared.entry.Entry.{Entry}
 use Rattle.gup_base.specs.declared.entry.Want.{Want}
@@ -15,7 +14,6 @@ use Rattle.gup_spec_events.specs.Descent.{reads_down, step_down}
 use Rattle.gup_law_tables.proofs.DownPaths.{stands_there}
 use Rattle.gup_law_tables.proofs.ReadDown.{leads_down}
 use Rattle.gup_plain.specs.Put.{put}
-use Rattle.gup_fast.specs.declared.walk.GiveUp.{GiveUp}
 use Rattle.gup_fast.specs.declared.walk.GiveUp.TheVariants.{Rights, MovableFrame}
 use Rattle.gup_fast.specs.Walks.{WalkValue, AreWalkEvents, ShowsWalk, at, at_stage, stopped_if, step_after_read, entry_down_in, walks_after}
 use Rattle.gup_fast.proofs.Begins.{change, own}

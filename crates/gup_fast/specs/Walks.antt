@@ -5,7 +5,7 @@ use Rattle.gup_base.specs.declared.entry.Entry.{Entry}
 use Rattle.gup_base.specs.declared.entry.Want.{Want}
 use Rattle.gup_frames.specs.Frames.{FramesValue, with_references, without_references}
 use Rattle.gup_space.specs.Shows.{Change, ShowsFrames, ShowsSpace}
-use Rattle.gup_space.specs.Space.{SpaceValue, tables_in}
+use Rattle.gup_space.specs.Space.{SpaceValue}
 use Rattle.gup_spec_tables.specs.Tables.{TreeValue, link_to, word_of}
 use Rattle.gup_spec_tables.specs.Paths.{entry_at, leads_still, path_to}
 use Rattle.gup_tables.specs.Path.{tables_on}

@@ -16,7 +16,7 @@ use Rattle.gup_spec_tables.specs.Paths.{entry_at, leads_still, KeepsPath}
 use Rattle.gup_spec_events.specs.State.{CoreState, Taken, WalkStep, entered, ready, reading, read, grabbed, rechecked, differed, refused, stopped, dropping, over}
 use Rattle.gup_spec_events.specs.Event.{CoreEvent, is_odd, happens, run, taken_frames, tree_in, read_sequence, read_mark, read_again, drop_last, drop_first}
 use Rattle.gup_spec_events.specs.Descent.{reads_down}
-use Rattle.gup_fast.specs.Walks.{WalkValue, Stage, counted_in, left_in, MayReadAgain, at, left, unbegun, at_stage, next_page, is_kept, found_again, ShowsWalk, AreWalkEvents, dropped_at, after_recheck, after_drop, reads_sequence, grabs, rechecks, reads_again, drops, drops_last, drops_first}
+use Rattle.gup_fast.specs.Walks.{WalkValue, Stage, counted_in, left_in, MayReadAgain, at, left, unbegun, at_stage, next_page, is_kept, ShowsWalk, AreWalkEvents, dropped_at, after_recheck, after_drop, reads_sequence, grabs, rechecks, reads_again, drops, drops_last, drops_first}
 use Rattle.gup_fast.specs.declared.walk.GiveUp.{GiveUp}
 use Rattle.gup_fast.specs.Walks.{leaves_if as leaves_walk, is_same as is_same_entry, is_none_left as no_frame_left, split_last as parts_of, one_before as one_more, last_of}
 use Rattle.gup_fast.proofs.Leaving.{Unwalked, unwalked_of, AreWalking, walkings_leave, sequence_walking, read_walking, grabs_walking, rechecks_walking, mark_walking, again_walking, drops_walking}
