@@ -1,5 +1,5 @@
 -- A turn with the page tables that it changes: they grow before the operation's own turn, and others go after it.
-use Rattle.std.proofs.Common.{◌≡◌, ℕ, ◌+◌, ◌<◌, ◌⊎◌, inl, inr, List, ◌++◌, length, Option, Some, None, IsSome, IfSome, refl, sym, subst, ap, ◌∙◌, ⊎_elim}
+use Rattle.std.proofs.Common.{◌≡◌, ℕ, ◌+◌, ◌<◌, inl, inr, List, ◌++◌, length, Option, Some, None, IsSome, IfSome, refl, sym, subst, ap, ◌∙◌, ⊎_elim}
 use Rattle.gup_plain.specs.State.{Noted, born}
 use Rattle.gup_plain.specs.declared.note.What.{What}
 use Rattle.gup_script.specs.declared.op.Op.{Op}

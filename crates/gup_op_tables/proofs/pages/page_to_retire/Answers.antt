@@ -1,10 +1,10 @@
 use Rattle.std.proofs.Common.{◌≡◌, ℕ, List, Option, sym, ap, subst, ◌∙◌}
 use Rattle.gup_base.specs.declared.entry.Rights.{Rights}
 use Rattle.gup_script.specs.declared.op.Op.{Op}
-use Rattle.gup_space.specs.Space.{SpaceValue, space_of}
+use Rattle.gup_space.specs.Space.{space_of}
 use Rattle.gup_spec_tables.specs.declared.place.Place.{Place}
 use Rattle.gup_spec_turns.specs.PageTurns.{lowest_page}
-use Rattle.gup_spec_turns.specs.TableTurns.{Spot, lowest_spot}
+use Rattle.gup_spec_turns.specs.TableTurns.{lowest_spot}
 use Rattle.gup_op_tables.specs.Spots.{spot_of, IsDown, retired_spot}
 use Rattle.gup_op_tables.proofs.pages.page_to_retire.Goals as goal
 
