@@ -4,15 +4,6 @@
 ghost use Rattle.std.specs.Prelude.{◌≡◌};
 ghost use Rattle.std.specs.Process.{exit_status};
 
-#[cfg(test)]
-mod calls;
-#[cfg(test)]
-mod checks;
-#[cfg(test)]
-mod lives;
-#[cfg(test)]
-mod tests;
-
 use gup_io::{FromStd, NoPace, ToStd};
 use gup_top::{Report, gup};
 use std::env::Env;

@@ -6,7 +6,7 @@ use Rattle.gup_spec_tables.specs.Tables.{table_numbers}
 use Rattle.gup_space.specs.Shows.{ShowsPool}
 use Rattle.gup_spec_events.specs.State.{CoreState}
 use Rattle.gup_spec_events.specs.Growth.{free_tables}
-use Rattle.gup_law_page_tables.proofs.Pools.{count_among}
+use Rattle.gup_space.proofs.Pools.{count_among}
 
 pub tables_shown : (pool : PoolValue) (s : CoreState) → pool.tables ≤ 8192 → ((table : ℕ) → pool.tables ≤ table → pool.free table ≡ false) → ShowsPool pool s → free_tables s ≡ free_in pool
 unfolding Rattle.gup_spec_tables.specs.Tables.table_numbers

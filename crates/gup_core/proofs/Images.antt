@@ -27,7 +27,7 @@ use Rattle.gup_op_waits.specs.Parts.{ShowsParts, EachSpace}
 use Rattle.gup_op_waits.specs.Seats.{IsSeat}
 use Rattle.gup_op_waits.specs.declared.seats.Seat.{Seat}
 use Rattle.gup_image.specs.declared.fact.Fact.{Fact}
-use Rattle.gup_law_image.specs.Alike.{AreOfOne, AreSameSeats}
+use Rattle.gup_image.specs.Alike.{AreOfOne, AreSameSeats}
 use Rattle.gup_core.specs.Machine.{MachineValue, Shows, IsReached, IsMachine}
 use Rattle.gup_core.specs.Images.{imaged, IsImage}
 use Rattle.gup_core.proofs.Resting.{Stand, standing}

@@ -1,7 +1,7 @@
 -- The image of a machine.
 use Rattle.std.specs.Prelude.{◌≡◌, List}
 use Rattle.gup_image.specs.declared.fact.Fact.{Fact}
-use Rattle.gup_law_image.specs.Alike.{Imaged, IsWhole, image_in}
+use Rattle.gup_image.specs.Alike.{Imaged, IsWhole, image_in}
 use Rattle.gup_core.specs.Machine.{MachineValue, IsMachine}
 
 -- What an image is made of: all but the script and how many turns are over.

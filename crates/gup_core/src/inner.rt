@@ -13,7 +13,7 @@ ghost use Rattle.gup_op_turns.specs.Copies.{is_copying};
 ghost use Rattle.gup_core.specs.Going.{Advances, WritesTurn, HasMore, IsMoved, IsStill, KeepsRoom};
 ghost use Rattle.gup_core.specs.Rest.{IsAtRest};
 ghost use Rattle.gup_image.specs.declared.fact.Fact.{Fact as FactValue};
-ghost use Rattle.gup_law_image.specs.Alike.{image_in};
+ghost use Rattle.gup_image.specs.Alike.{image_in};
 ghost use Rattle.gup_core.specs.Images.{IsImage, imaged};
 
 use crate::outcome::{Advanced, Woken, woken_by};

@@ -7,7 +7,7 @@ ghost use Rattle.gup_spec_journal.specs.Place.{has_finished};
 ghost use Rattle.gup_spec_turns.specs.Run.{RunState, waiting_in};
 ghost use Rattle.gup_core.specs.Machine.{MachineValue, Shows, TakesTurns, IsNew, free_frames_in};
 ghost use Rattle.gup_core.specs.Images.{IsImage, imaged};
-ghost use Rattle.gup_law_image.specs.Alike.{image_in};
+ghost use Rattle.gup_image.specs.Alike.{image_in};
 ghost use Rattle.gup_image.specs.declared.fact.Fact.{Fact as FactValue};
 ghost use Rattle.gup_script.specs.Valid.{IsScript};
 ghost use Rattle.gup_core.specs.Going.{Advances, WritesTurn};
@@ -16,9 +16,8 @@ use crate::inner::Inner;
 use crate::outcome::Advanced;
 use crate::turn::Turn;
 use gup_base::{ActorNo, NoMemory, ProcNo, Zone};
-use gup_image::KeptFact;
-use gup_law_image::{
-    images_are_exact as facts_are_exact, images_are_of_states as facts_are_of_states,
+use gup_image::{
+    KeptFact, images_are_exact as facts_are_exact, images_are_of_states as facts_are_of_states,
 };
 use gup_law_turns::reached_states_stand;
 use gup_plain::{Journal, Waiting};

@@ -1,3 +1,10 @@
 pub mod Gathered
 pub mod Pages
 pub mod Waiting
+pub mod GatheredFacts
+pub mod Facts
+pub mod Jobs
+pub mod Whole
+pub mod Told
+pub mod Exact
+pub mod Canonical

@@ -20,7 +20,7 @@ use gup_tables::Pool;
 use std::alloc::Global;
 
 /// The facts of a machine that is made of these, in a fixed order: two machines have the same facts exactly where they show the same
-/// states (the laws of `gup_law_image`).
+/// states ([`crate::images_are_exact`], [`crate::images_are_of_states`]).
 pub fn image(
     alloc: Global,
     parts: &Parts,

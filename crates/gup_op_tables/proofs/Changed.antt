@@ -4,7 +4,7 @@ use Rattle.std.proofs.lemmas.Bool.Decides.{nat_tests}
 use Rattle.gup_space.specs.Space.{SpaceValue, SpaceParts, space_of}
 use Rattle.gup_space.specs.Shows.{ShowsSpace}
 use Rattle.gup_space.proofs.Tabled.{grows_rest, retires_rest, other_shown}
-use Rattle.gup_law_page_tables.specs.Shown.{KeepsOthers}
+use Rattle.gup_space.specs.ShownTables.{KeepsOthers}
 use Rattle.gup_spec_events.specs.State.{CoreState}
 use Rattle.gup_spec_events.specs.Event.{run}
 use Rattle.gup_spec_events.specs.Growth.{grows, retires}

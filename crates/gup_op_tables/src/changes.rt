@@ -14,8 +14,7 @@ ghost use Rattle.gup_op_tables.specs.Released.{HasNone, OwnsAt};
 
 use crate::pages::Spot;
 use gup_base::{PageNo, ProcNo};
-use gup_law_page_tables::{growth_is_events, shrinking_is_events};
-use gup_space::Space;
+use gup_space::{Space, growth_is_events, shrinking_is_events};
 use gup_tables::Pool;
 
 /// Gives the page the tables that it lacks, as [`Space::grow`] does, or none where too few are free. Where there is no page nothing

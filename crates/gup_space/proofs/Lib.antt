@@ -3,3 +3,5 @@ pub mod After
 pub mod FaultLemmas
 pub mod ShowsLemmas
 pub mod Tabled
+pub mod Pools
+pub mod Changes

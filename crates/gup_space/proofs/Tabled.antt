@@ -10,7 +10,7 @@ use Rattle.gup_spec_events.specs.State.{CoreState}
 use Rattle.gup_spec_events.specs.Event.{CoreEvent, run, tree_in, reclaim}
 use Rattle.gup_spec_events.specs.Growth.{reclaims as reclaims_all, lowest_table, adds_one, adds, has_enough, adds_all, grows as grows_all, takes_one, takes_out, retires as retires_all}
 use Rattle.gup_spec_events.proofs.Runs.{run_behind}
-use Rattle.gup_law_page_tables.specs.Shown.{ShowsTables, wants_tables, grown, shrunk}
+use Rattle.gup_space.specs.ShownTables.{ShowsTables, wants_tables, grown, shrunk}
 use Rattle.gup_space.specs.Space.{SpaceValue}
 use Rattle.gup_space.specs.Shows.{ShowsSpace, ShowsPool}
 

@@ -2,3 +2,4 @@ pub mod Space
 pub mod Shows
 pub mod Counted
 pub mod Found
+pub mod ShownTables

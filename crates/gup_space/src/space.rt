@@ -16,8 +16,8 @@ ghost use Rattle.gup_maps.specs.Maps.{IsNextPage, IsLastPage};
 ghost use Rattle.gup_space.specs.Space.{no_space, space_of, with_entry, with_rights, with_pages, without_page, tables_in, lacking, OwnsTables};
 ghost use Rattle.gup_space.specs.Shows.{ShowsSpace, ShowsPool};
 
+use crate::law::{growth_is_events, shrinking_is_events};
 use gup_base::{ActorNo, Entry, NoMemory, PageNo, Rights};
-use gup_law_page_tables::{growth_is_events, shrinking_is_events};
 use gup_maps::{Hole, MapRefusal, Maps};
 use gup_page_tables::{NoTable, PageTables};
 use gup_tables::{Path, Place, Pool, Table, TableNo};

@@ -1,5 +1,5 @@
 use Rattle.std.proofs.Common.{◌≡◌, sym, ◌∙◌}
-use Rattle.gup_law_image.specs.Alike.{image_in}
+use Rattle.gup_image.specs.Alike.{image_in}
 use Rattle.gup_core.specs.Images.{imaged}
 use Rattle.gup_core.proofs.Images.{of_one, exact}
 use Rattle.gup_core.proofs.machine.images_are_exact.Goals as goal

@@ -2,7 +2,7 @@ use Rattle.std.proofs.Common.{ℕ, ◌<◌, List, ◌++◌, length, reverse, ref
 use Rattle.std.specs.List.{All}
 use Rattle.gup_core.specs.Images.{IsImage, imaged}
 use Rattle.gup_core.specs.Machine.{Shows}
-use Rattle.gup_law_image.specs.Alike.{image_in}
+use Rattle.gup_image.specs.Alike.{image_in}
 use Rattle.gup_spec_turns.specs.Run.{turned, run_start}
 use Rattle.gup_spec_orders.specs.Orders.{beginning, setup}
 use Rattle.gup_search.specs.States.{State}

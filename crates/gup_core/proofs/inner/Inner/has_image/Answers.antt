@@ -1,6 +1,6 @@
 use Rattle.std.proofs.Common.{◌≡◌, List, sym, subst, ◌∙◌}
 use Rattle.gup_image.specs.declared.fact.Fact.{Fact}
-use Rattle.gup_law_image.specs.Alike.{image_in}
+use Rattle.gup_image.specs.Alike.{image_in}
 use Rattle.gup_core.specs.Images.{IsImage, imaged}
 use Rattle.gup_core.specs.Machine.{MachineValue, machine_of}
 use Rattle.gup_core.specs.Rest.{IsAtRest}

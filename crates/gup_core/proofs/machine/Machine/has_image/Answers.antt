@@ -1,6 +1,6 @@
 use Rattle.std.proofs.Common.{◌≡◌, List, subst}
 use Rattle.gup_image.specs.declared.fact.Fact.{Fact}
-use Rattle.gup_law_image.specs.Alike.{image_in}
+use Rattle.gup_image.specs.Alike.{image_in}
 use Rattle.gup_core.specs.Images.{IsImage, imaged}
 use Rattle.gup_core.specs.Machine.{MachineValue}
 use Rattle.gup_core.proofs.machine.Machine.has_image.Goals as goal

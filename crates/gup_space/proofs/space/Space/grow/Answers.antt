@@ -2,7 +2,7 @@ use Rattle.std.proofs.Common.{◌≡◌, not, sym, ap, subst, ◌∙◌, arith}
 use Rattle.gup_spec_tables.specs.Tables.{lacks}
 use Rattle.gup_tables.specs.Pool.{pool_of}
 use Rattle.gup_page_tables.specs.PageTables.{tables_of, Both, both, IsOf}
-use Rattle.gup_law_page_tables.specs.Shown.{IsPool, ShowsTables, grown}
+use Rattle.gup_space.specs.ShownTables.{IsPool, ShowsTables, grown}
 use Rattle.gup_spec_events.specs.Event.{run}
 use Rattle.gup_spec_events.specs.Growth.{grows}
 use Rattle.gup_space.specs.contracts.space.Space.{the_view}

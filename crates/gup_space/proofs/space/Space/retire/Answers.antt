@@ -1,7 +1,7 @@
 use Rattle.std.proofs.Common.{◌≡◌, sym, ap, subst, ◌∙◌}
 use Rattle.gup_tables.specs.Pool.{pool_of}
 use Rattle.gup_page_tables.specs.PageTables.{tables_of, Both, both}
-use Rattle.gup_law_page_tables.specs.Shown.{ShowsTables, shrunk}
+use Rattle.gup_space.specs.ShownTables.{ShowsTables, shrunk}
 use Rattle.gup_spec_events.specs.Event.{run}
 use Rattle.gup_spec_events.specs.Growth.{retires}
 use Rattle.gup_space.specs.contracts.space.Space.{the_view}

@@ -1,7 +1,0 @@
-pub mod Gathered
-pub mod Facts
-pub mod Jobs
-pub mod Whole
-pub mod Told
-pub mod Exact
-pub mod Canonical

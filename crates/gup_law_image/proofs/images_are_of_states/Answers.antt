@@ -1,6 +1,0 @@
--- Part by part.
-use Rattle.gup_law_image.proofs.Canonical.{canonical}
-use Rattle.gup_law_image.proofs.images_are_of_states.Goals as goal
-
-pub returns : goal.returns
-returns c = canonical
